@@ -1,0 +1,4 @@
+-- The root of the definitions that the contracts of text cite.
+pub mod Lines
+pub mod Numbers
+pub mod Writer

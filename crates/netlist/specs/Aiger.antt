@@ -1,0 +1,38 @@
+-- What AIGER says of one cycle, free of any order of evaluation, and the claim that the netlist's
+-- meaning is just that, in every lane. Assumes nothing.
+use mathlib.Core.Path.{_≡_}
+use mathlib.Core.Bool.{Bool, true, false, _&&_}
+use mathlib.Core.List.{List, map}
+use Prim.Native.Nat.{ℕ, _+_, _<_}
+use lib.ListN.{length, getD}
+use Rattle.netlist.specs.Layout.{maximum, inputCount, latchCount, gateCount, operandsAt, inputVariable, latchVariable, gateVariable}
+use Rattle.netlist.specs.Lanes.{lane}
+use Rattle.netlist.specs.Meaning.{bools, words, litOf, valuesOf, nextOf, outputOf}
+use Rattle.netlist.specs.Valid.{isNetlist}
+
+-- v values the variables 0 to M as AIGER asks: variable 0 is false, inputs and latches have the values
+-- given, and each gate is the AND of its two operand literals
+pub record Satisfies (net : List ℕ) (ins latches v : List Bool) : Type 0 where
+  pub whole : length v ≡ maximum net + 1
+  pub constant : getD v 0 true ≡ false
+  pub inputs : (k : ℕ) → k < inputCount net → getD v (inputVariable k) false ≡ getD ins k false
+  pub latched : (k : ℕ) → k < latchCount net → getD v (latchVariable net k) false ≡ getD latches k false
+  pub gates : (k : ℕ) → k < gateCount net
+      → getD v (gateVariable net k) false ≡ (litOf bools v (getD net (operandsAt net k) 0) && litOf bools v (getD net (operandsAt net k + 1) 0))
+
+-- one lane of a netlist, with its inputs and latches: the meaning satisfies AIGER's equations, and
+-- nothing else does
+pub record OneLane (net : List ℕ) (ins latches : List Bool) : Type 0 where
+  pub satisfies : Satisfies net ins latches (valuesOf bools net ins latches)
+  pub only : (v : List Bool) → Satisfies net ins latches v → v ≡ valuesOf bools net ins latches
+
+-- lane n of the word meaning is the one-lane meaning of lane n: values, next latches, outputs
+pub record SameInLane (n : ℕ) (net : List ℕ) : Type 0 where
+  pub values : (ins latches : List ℕ) → map (lane n) (valuesOf words net ins latches) ≡ valuesOf bools net (map (lane n) ins) (map (lane n) latches)
+  pub next : (vs : List ℕ) → map (lane n) (nextOf words net vs) ≡ nextOf bools net (map (lane n) vs)
+  pub output : (k : ℕ) (vs : List ℕ) → lane n (outputOf words net k vs) ≡ outputOf bools net k (map (lane n) vs)
+
+-- THE MEANING: of every netlist, in every lane
+pub record Means (net : List ℕ) : Type 0 where
+  pub lanes : (n : ℕ) → n < 64 → SameInLane n net
+  pub aiger : isNetlist net ≡ true → (ins latches : List Bool) → length ins ≡ inputCount net → length latches ≡ latchCount net → OneLane net ins latches

@@ -1,0 +1,97 @@
+-- Worked examples of rejected cycles under the definition of paths: document 01's starred ones, and one
+-- for each way in which the definition could be misread. A byte 48 is `0`, 49 is `1`. Assumes nothing.
+use Prim.Native.Nat.{ℕ}
+use mathlib.Core.Path.{_≡_, refl}
+use mathlib.Core.Bool.{Bool, true, false}
+use mathlib.Core.List.{List, [], _∷_}
+use Rattle.assertion.specs.Graph.{Bytes, Expr, signal, constant, truth, conj, disj, same, Edge, Graph, Cycle, isTerminal, input, isInit, holds}
+use Rattle.assertion.specs.Paths.{verdicts, isRejected, rejectedUnder, rejectsAlong}
+
+abbrev p : Bytes
+p = 112 ∷ []
+
+abbrev q : Bytes
+q = 113 ∷ []
+
+abbrev ab : List Bytes
+ab = (97 ∷ []) ∷ (98 ∷ []) ∷ []
+
+abbrev edge : ℕ → ℕ → Bool → Expr → Bytes → Expr → Bytes → Edge
+edge f t m a at c ct =
+    record { from = f; to = t; marked = m; antecedent = a; consequent = c; antecedentText = at; consequentText = ct }
+
+-- a cycle of init, p and q
+abbrev three : ℕ → ℕ → ℕ → Cycle
+three a b c = a ∷ b ∷ c ∷ []
+
+-- `E a b t p q`, and `E b b t p 1`
+abbrev first : Edge
+first = edge 0 1 true (signal 0) p (signal 1) q
+
+abbrev loop : Edge
+loop = edge 1 1 true (signal 0) p (truth true) (49 ∷ [])
+
+abbrev G : Graph
+G = record { signals = p ∷ q ∷ []; constants = []; vertices = ab; edges = first ∷ [] }
+
+abbrev G-loop : Graph
+G-loop = record { signals = p ∷ q ∷ []; constants = []; vertices = ab; edges = first ∷ loop ∷ [] }
+
+-- ---- formulas
+-- `p|q&r` at 1,0,0 is 1
+or-and : holds [] (49 ∷ 49 ∷ 48 ∷ 48 ∷ []) (disj (signal 0) (conj (signal 1) (signal 2))) ≡ true
+unfolding holds input
+or-and = refl
+
+-- `p=q=r` at 0,0,0 is 0
+same-same : holds [] (49 ∷ 48 ∷ 48 ∷ 48 ∷ []) (same (same (signal 0) (signal 1)) (signal 2)) ≡ false
+unfolding holds input
+same-same = refl
+
+-- ---- paths
+-- G on 110, 111, 010: the first cycle is rejected; the second is an init of its own; the third has no path
+rejects-one : verdicts G [] (three 49 49 48 ∷ three 49 49 49 ∷ three 48 49 48 ∷ []) ≡ 1 ∷ 0 ∷ 0 ∷ []
+unfolding isRejected rejectedUnder rejectsAlong isTerminal holds isInit input
+rejects-one = refl
+
+-- G without init, 010
+no-init : verdicts G [] (three 48 49 48 ∷ []) ≡ 0 ∷ []
+unfolding isRejected rejectedUnder rejectsAlong isTerminal holds isInit input
+no-init = refl
+
+-- G with `E b b t p 1` on 110, 011, 001: a condemned path goes on, and a false antecedent excuses it
+rejects-two : verdicts G-loop [] (three 49 49 48 ∷ three 48 49 49 ∷ three 48 48 49 ∷ []) ≡ 1 ∷ 1 ∷ 0 ∷ []
+unfolding isRejected rejectedUnder rejectsAlong isTerminal holds isInit input
+rejects-two = refl
+
+-- the same on 110, 111: the path starts anew at the latest init
+starts-anew : verdicts G-loop [] (three 49 49 48 ∷ three 49 49 49 ∷ []) ≡ 1 ∷ 0 ∷ []
+unfolding isRejected rejectedUnder rejectsAlong isTerminal holds isInit input
+starts-anew = refl
+
+-- G on 100: where the antecedent fails, the consequent is not asked
+not-asked : verdicts G [] (three 49 48 48 ∷ []) ≡ 0 ∷ []
+unfolding isRejected rejectedUnder rejectsAlong isTerminal holds isInit input
+not-asked = refl
+
+-- G with `-` for `t` on 110: no path ends on a terminal edge
+no-terminal : verdicts (record { signals = p ∷ q ∷ []; constants = []; vertices = ab; edges = edge 0 1 false (signal 0) p (signal 1) q ∷ [] }) [] (three 49 49 48 ∷ []) ≡ 0 ∷ []
+unfolding isRejected rejectedUnder rejectsAlong isTerminal holds isInit input
+no-terminal = refl
+
+-- `E b b t 1 0` alone on 1: no path leaves the start vertex
+not-reached : verdicts (record { signals = []; constants = []; vertices = ab; edges = edge 1 1 true (truth true) (49 ∷ []) (truth false) (48 ∷ []) ∷ [] }) [] ((49 ∷ []) ∷ []) ≡ 0 ∷ []
+unfolding isRejected rejectedUnder rejectsAlong isTerminal holds isInit input
+not-reached = refl
+
+-- `S p`, `K k`, one terminal edge `k`/`p` from the start vertex: 10 is rejected, 11 accepted
+abbrev G-constant : Graph
+G-constant = record { signals = p ∷ []; constants = (107 ∷ []) ∷ []; vertices = ab; edges = edge 0 1 true (constant 0) (107 ∷ []) (signal 0) p ∷ [] }
+
+constant-rejected : verdicts G-constant [] ((49 ∷ 48 ∷ []) ∷ []) ≡ 1 ∷ []
+unfolding isRejected rejectedUnder rejectsAlong isTerminal holds isInit input
+constant-rejected = refl
+
+constant-accepted : verdicts G-constant [] ((49 ∷ 49 ∷ []) ∷ []) ≡ 0 ∷ []
+unfolding isRejected rejectedUnder rejectsAlong isTerminal holds isInit input
+constant-accepted = refl

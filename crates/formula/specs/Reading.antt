@@ -1,0 +1,35 @@
+-- What reading a field answers: whether it is a formula, its depth, and its operands and operators in
+-- postfix order, from which names are looked up and gates are made. Assumes nothing.
+use Prim.Native.Nat.{ℕ, _+_, _*_, _-_}
+use mathlib.Core.Bool.{Bool, true, false}
+use mathlib.Core.List.{List, [], _∷_, _++_}
+use lib.ListN.{length, replicate}
+use Rattle.formula.specs.Grammar.{Tree, name, bit, not, group, join, Parsed, none, tree, treeOf, depthOf}
+use Rattle.formula.specs.declared.Formula.{Formula}
+
+-- the word of a name: 16 times its first place, and its length, which is at most 15
+unfoldable pub nameWord : ℕ → ℕ → ℕ
+nameWord at n = at * 16 + n
+
+-- the word of `0`, `1`, `!` or an operator between two operands
+unfoldable pub byteWord : ℕ → ℕ
+byteWord b = 4096 + b
+
+-- operands left to right before their operator
+unfoldable pub postfix : Tree → List ℕ
+postfix (name at n) = nameWord at n ∷ []
+postfix (bit b) = byteWord b ∷ []
+postfix (not e) = postfix e ++ (byteWord 33 ∷ [])
+postfix (group e) = postfix e
+postfix (join b e e2) = (postfix e ++ postfix e2) ++ (byteWord b ∷ [])
+
+-- 255 words, of which the first are those given and the others 0
+unfoldable pub padded : List ℕ → List ℕ
+padded ws = ws ++ replicate (255 - length ws) 0
+
+unfoldable pub answerOf : Parsed → Formula
+answerOf none = record { formed = false; depth = 0; count = 0; words = padded [] }
+answerOf (tree e) = record { formed = true; depth = depthOf e; count = length (postfix e); words = padded (postfix e) }
+
+unfoldable pub formulaOf : List ℕ → Formula
+formulaOf s = answerOf (treeOf s)

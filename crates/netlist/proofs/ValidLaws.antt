@@ -80,9 +80,9 @@ header m i l o a e =
     }
 
 module _ (net : List ℕ) where
-  within : maximum net ≤ 4095 → (lit : ℕ) → isWithin net lit ≡ true → variableOf lit ≤ maximum net
+  within : (lit : ℕ) → isWithin net lit ≡ true → variableOf lit ≤ maximum net
   unfolding isWithin
-  within h lit e = variable-within (maximum net) (omega arith) lit (leb-true lit (literalOf (maximum net) true) e)
+  within lit e = variable-within (maximum net) lit (leb-true lit (literalOf (maximum net) true) e)
 
   reset : (k own : ℕ) → (not (isFree net k) || eqb (getD net (resetAt k) 0) own) ≡ true
       → (getD net (resetAt k) 0 ≤ 1) ⊎ (getD net (resetAt k) 0 ≡ own)
@@ -140,16 +140,16 @@ module _ (net : List ℕ) where
         few = h .few;
         single = h .single;
         long = leb-true (sizeOf net) (length net) (b3 .0);
-        outputs = λ k l. within (h .small) (getD net (outputAt net k) 0) (output k (each-at (outputOk net) (outputCount net) (b4 .0) k l));
-        nexts = λ k l. within (h .small) (getD net (nextAt k) 0) (latch k (each-at (latchOk net) (latchCount net) (b5 .0) k l) .0);
+        outputs = λ k l. within (getD net (outputAt net k) 0) (output k (each-at (outputOk net) (outputCount net) (b4 .0) k l));
+        nexts = λ k l. within (getD net (nextAt k) 0) (latch k (each-at (latchOk net) (latchCount net) (b5 .0) k l) .0);
         resets = λ k l. reset k (literalOf (latchVariable net k) false) (latch k (each-at (latchOk net) (latchCount net) (b5 .0) k l) .1);
         free = leb-true (freeCount net (latchCount net)) 6 (b6 .0);
         below = λ k l. at k l .0;
         order = λ k l. at k l .1;
-        first = λ k l. variable-below (gateVariable net k) (omega arith) (getD net (operandsAt net k) 0) (at k l .0);
+        first = λ k l. variable-below (gateVariable net k) (getD net (operandsAt net k) 0) (at k l .0);
         second = λ k l.
             let b = at k l in
-            variable-below (gateVariable net k) (omega arith) (getD net (operandsAt net k + 1) 0) (omega arith);
+            variable-below (gateVariable net k) (getD net (operandsAt net k + 1) 0) (omega arith);
       }
 
   -- an uninitialised latch of a netlist has fewer than 6 before it

@@ -1,6 +1,6 @@
 // Literals and variables: the one place where one becomes the other.
 ghost use mathlib.Core.Path.{_≡_};
-ghost use Rattle.netlist.specs.Literals.{literalOf, variableOf, isInverted};
+ghost use Rattle.netlist.specs.Literals.{literalOf, variableOf, isInverted, wrapped};
 
 // A literal: 2v for the variable v, 2v + 1 for its inverse.
 pub struct Literal(pub u16);
@@ -27,7 +27,7 @@ impl Literal {
 impl Variable {
     // The literal of a variable, or of its inverse; doubling wraps past variable 32,767.
     pub fn literal(self, inverted: bool) -> Literal
-        ensures { λ r. ⌜ r .0 ≡ literalOf (self .0) inverted ⌝ }
+        ensures { λ r. ⌜ r .0 ≡ literalOf (wrapped (self .0)) inverted ⌝ }
     {
         let doubled = 2 * (self.0 % 32768);
         if inverted {

@@ -60,7 +60,7 @@ fn outputs_ok(net: &[u16], at: usize, count: u16, last: Literal) -> bool
 // Latch k, whose variable is `own`.
 fn latch_ok(net: &[u16], k: u16, own: Variable, last: Literal) -> bool
     requires { ⌜ (own .0 ≡ latchVariable (now net) k) × (last .0 ≡ literalOf (maximum (now net)) true) ⌝ }
-    requires { ⌜ 5 + 2 * k + 1 < length (now net) ⌝ }
+    requires { ⌜ (5 + 2 * k + 1 < length (now net)) × (own .0 < 32768) ⌝ }
     ensures { λ r. ⌜ r ≡ latchOk (now (net .entry)) k ⌝ }
 {
     let at = HEADER + 2 * (k as usize);
@@ -87,7 +87,7 @@ fn free(net: &[u16], k: u16) -> u16
 // The latches' variables are `first` and those that follow it.
 fn latches_ok(net: &[u16], first: u16, count: u16, last: Literal) -> bool
     requires { ⌜ (first ≡ inputCount (now net) + 1) × (last .0 ≡ literalOf (maximum (now net)) true) ⌝ }
-    requires { ⌜ (5 + 2 * count ≤ length (now net)) × (first + count < 65536) ⌝ }
+    requires { ⌜ (5 + 2 * count ≤ length (now net)) × (first + count ≤ 32768) ⌝ }
     ensures { λ r. ⌜ r ≡ (each count (latchOk (now (net .entry))) && leb (freeCount (now (net .entry)) count) 6) ⌝ }
 {
     let mut uninitialised: u16 = 0;
@@ -102,7 +102,7 @@ fn latches_ok(net: &[u16], first: u16, count: u16, last: Literal) -> bool
 
 // The gate whose variable is `own` and whose operands stand at `at`: g > r0 >= r1.
 fn gate_ok(net: &[u16], at: usize, own: Variable) -> bool
-    requires { ⌜ at + 1 < length (now net) ⌝ }
+    requires { ⌜ (at + 1 < length (now net)) × (own .0 < 32768) ⌝ }
     ensures { λ r. ⌜ r ≡ (ltb (getD (now (net .entry)) at 0) (literalOf (own .0) false)
         && leb (getD (now (net .entry)) (at + 1) 0) (getD (now (net .entry)) at 0)) ⌝ }
 {
@@ -119,7 +119,7 @@ fn gate_ok(net: &[u16], at: usize, own: Variable) -> bool
 fn gates_ok(net: &[u16], at: usize, first: u16, count: u16) -> bool
     requires { ⌜ (at ≡ 5 + 2 * latchCount (now net) + outputCount (now net))
         × (first ≡ inputCount (now net) + latchCount (now net) + 1) ⌝ }
-    requires { ⌜ (at + 2 * count ≤ length (now net)) × (first + count < 65536) ⌝ }
+    requires { ⌜ (at + 2 * count ≤ length (now net)) × (first + count ≤ 32768) ⌝ }
     ensures { λ r. ⌜ r ≡ each count (gateOk (now (net .entry))) ⌝ }
 {
     for k in 0..count {

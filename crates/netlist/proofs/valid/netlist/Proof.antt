@@ -1,5 +1,5 @@
 -- `netlist` meets its contract. Assumes nothing.
-use mathlib.Core.Path.{_≡_, sym, _∙_}
+use mathlib.Core.Path.{_≡_, sym, ap, _∙_}
 use mathlib.Core.Bool.{Bool, true, _&&_, and-assoc}
 use mathlib.Core.List.{List}
 use Prim.Native.Nat.{ℕ}
@@ -8,8 +8,10 @@ use lib.Dec.{leb}
 use lib.ListN.{length}
 use borrow.Author.Tests.{le-leb, lt-leb, not-true, not-false}
 use Rattle.netlist.specs.Layout.{maximum, inputCount, latchCount, outputCount, gateCount, sizeOf}
+use Rattle.netlist.specs.Literals.{literalOf}
 use Rattle.netlist.specs.Lanes.{each}
 use Rattle.netlist.specs.Valid.{headerOk, latchOk, freeCount, outputOk, gateOk, isNetlist}
+use Rattle.netlist.proofs.LiteralLaws.{unwrapped}
 use Rattle.netlist.proofs.ValidLaws.{Header, header}
 use borrow.Author.Needs.{needs}
 use Rattle.netlist.proofs.valid.netlist.Statement.{statement}
@@ -117,8 +119,12 @@ returns-3 c = sym (left (c .before) ∙ rw (lt-leb _ _ (c .if3 .taken)))
 literal-requires : tie.Need-literal-requires
 literal-requires c κs = search needs
 
+-- the largest literal
+last : (c : tie.After-literal) → c .literal .result .0 ≡ literalOf (maximum (N (c .before .before))) true
+last c = c .literal .ensures ∙ ap (λ (v : ℕ). literalOf v true) (unwrapped _ (omega (arith, facts (c .before .before))))
+
 outputs-ok-requires : tie.Need-outputs-ok-requires
-outputs-ok-requires c κs = search needs
+outputs-ok-requires c κs = let e = last c in search needs
 
 returns-4 : tie.Need-returns-4
 returns-4 c =
@@ -130,7 +136,10 @@ add-latches-ok : tie.Need-add-latches-ok
 add-latches-ok c = omega (arith, facts (c .before .before .before .before))
 
 latches-ok-requires : tie.Need-latches-ok-requires
-latches-ok-requires c κs = let h = facts (c .before .before .before .before) in search needs
+latches-ok-requires c κs =
+    let h = facts (c .before .before .before .before) in
+    let e = last (c .before .before) in
+    search needs
 
 returns-5 : tie.Need-returns-5
 returns-5 c =

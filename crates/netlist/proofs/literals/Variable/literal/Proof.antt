@@ -2,7 +2,7 @@
 use mathlib.Core.Path.{sym}
 use native.Mathlib.Nat.{add-zero}
 use borrow.Author.Needs.{needs}
-use Rattle.netlist.specs.Literals.{literalOf}
+use Rattle.netlist.specs.Literals.{literalOf, wrapped}
 use Rattle.netlist.proofs.literals.Variable.literal.Statement.{statement}
 use Rattle.netlist.proofs.literals.Variable.literal.Tie as tie
 
@@ -13,11 +13,11 @@ add-t7 : tie.Need-add-t7
 add-t7 c = search needs
 
 returns : tie.Need-returns
-unfolding literalOf
+unfolding literalOf wrapped
 returns c = rw (c .if1 .taken)
 
 returns-2 : tie.Need-returns-2
-unfolding literalOf
+unfolding literalOf wrapped
 returns-2 c = rw (c .if1 .left) (sym (add-zero _))
 
 pub literal-spec : {M : Type 1} → statement M

@@ -1,5 +1,5 @@
 -- What a literal is of a variable, and which variables the literals below a bound are of. Assumes nothing.
-use mathlib.Core.Path.{_≡_}
+use mathlib.Core.Path.{_≡_, ap, _∙_}
 use mathlib.Core.Bool.{Bool, true, false}
 use Prim.Native.Nat.{ℕ, _+_, _*_, _%_, _<_, _≤_}
 use native.Mathlib.Nat.{add-zero, mod-eq-of-lt}
@@ -10,6 +10,10 @@ use Rattle.netlist.specs.Literals.{literalOf, variableOf, isInverted, wr
 pub unwrapped : (v : ℕ) → v < 32768 → wrapped v ≡ v
 unfolding wrapped
 unwrapped v h = mod-eq-of-lt h
+
+-- what `Variable::literal` answers of such a variable
+pub made : (v : ℕ) (s : Bool) {l : ℕ} → v < 32768 → l ≡ literalOf (wrapped v) s → l ≡ literalOf v s
+made v s h e = e ∙ ap (λ (w : ℕ). literalOf w s) (unwrapped v h)
 
 module _ (v : ℕ) where
   pub literal-plain : literalOf v false ≡ 2 * v

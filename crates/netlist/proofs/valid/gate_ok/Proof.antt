@@ -1,11 +1,8 @@
 -- `gate_ok` meets its contract. Assumes nothing.
-use mathlib.Core.Path.{ap, _∙_}
 use mathlib.Core.Bool.{false}
-use Prim.Native.Nat.{ℕ}
 use native.Mathlib.Omega.{arith}
 use borrow.Author.Tests.{lt-ltb, le-ltb}
-use Rattle.netlist.specs.Literals.{literalOf}
-use Rattle.netlist.proofs.LiteralLaws.{unwrapped}
+use Rattle.netlist.proofs.LiteralLaws.{made}
 use borrow.Author.Needs.{needs}
 use Rattle.netlist.proofs.valid.gate_ok.Statement.{statement}
 use Rattle.netlist.proofs.valid.gate_ok.Tie as tie
@@ -29,10 +26,10 @@ literal-requires : tie.Need-literal-requires
 literal-requires c κs = search needs
 
 returns : tie.Need-returns
-returns c = simp (← (c .before .before .literal .ensures ∙ ap (λ (v : ℕ). literalOf v false) (unwrapped _ (omega arith))), le-ltb _ _ (c .if1 .taken))
+returns c = simp (← (made _ false (omega arith) (c .before .before .literal .ensures)), le-ltb _ _ (c .if1 .taken))
 
 returns-2 : tie.Need-returns-2
-returns-2 c = simp (← (c .before .before .literal .ensures ∙ ap (λ (v : ℕ). literalOf v false) (unwrapped _ (omega arith))), lt-ltb _ _ (c .if1 .left))
+returns-2 c = simp (← (made _ false (omega arith) (c .before .before .literal .ensures)), lt-ltb _ _ (c .if1 .left))
 
 pub gate-ok-spec : {M : Type 1} → statement M
 gate-ok-spec =

@@ -1,10 +1,7 @@
 -- `latch_ok` meets its contract. Assumes nothing.
-use mathlib.Core.Path.{ap, _∙_}
 use mathlib.Core.Bool.{false}
-use Prim.Native.Nat.{ℕ}
 use borrow.Author.Tests.{le-leb, lt-leb}
-use Rattle.netlist.specs.Literals.{literalOf}
-use Rattle.netlist.proofs.LiteralLaws.{unwrapped}
+use Rattle.netlist.proofs.LiteralLaws.{made}
 use Rattle.netlist.specs.Valid.{isWithin, isFree, latchOk}
 use borrow.Author.Needs.{needs}
 use Rattle.netlist.proofs.valid.latch_ok.Statement.{statement}
@@ -46,7 +43,7 @@ returns-3 : tie.Need-returns-3
 unfolding latchOk isWithin isFree
 returns-3 c =
     let p = c .before .before .before .before .before .before .before .before .pre .0 in
-    rw (← (p .1), ← (p .0), ← (c .before .literal .ensures ∙ ap (λ (v : ℕ). literalOf v false) (unwrapped _ (c .before .before .before .before .before .before .before .before .pre .1 .1))), le-leb _ _ (c .before .before .before .if1 .left), lt-leb _ _ (c .before .before .if2 .left))
+    rw (← (p .1), ← (p .0), ← (made _ false (c .before .before .before .before .before .before .before .before .pre .1 .1) (c .before .literal .ensures)), le-leb _ _ (c .before .before .before .if1 .left), lt-leb _ _ (c .before .before .if2 .left))
 
 pub latch-ok-spec : {M : Type 1} → statement M
 latch-ok-spec =

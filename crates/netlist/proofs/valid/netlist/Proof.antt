@@ -1,5 +1,5 @@
 -- `netlist` meets its contract. Assumes nothing.
-use mathlib.Core.Path.{_≡_, sym, ap, _∙_}
+use mathlib.Core.Path.{_≡_, sym, _∙_}
 use mathlib.Core.Bool.{Bool, true, _&&_, and-assoc}
 use mathlib.Core.List.{List}
 use Prim.Native.Nat.{ℕ}
@@ -11,7 +11,7 @@ use Rattle.netlist.specs.Layout.{maximum, inputCount, latchCount, output
 use Rattle.netlist.specs.Literals.{literalOf}
 use Rattle.netlist.specs.Lanes.{each}
 use Rattle.netlist.specs.Valid.{headerOk, latchOk, freeCount, outputOk, gateOk, isNetlist}
-use Rattle.netlist.proofs.LiteralLaws.{unwrapped}
+use Rattle.netlist.proofs.LiteralLaws.{made}
 use Rattle.netlist.proofs.ValidLaws.{Header, header}
 use borrow.Author.Needs.{needs}
 use Rattle.netlist.proofs.valid.netlist.Statement.{statement}
@@ -121,7 +121,7 @@ literal-requires c κs = search needs
 
 -- the largest literal
 last : (c : tie.After-literal) → c .literal .result .0 ≡ literalOf (maximum (N (c .before .before))) true
-last c = c .literal .ensures ∙ ap (λ (v : ℕ). literalOf v true) (unwrapped _ (omega (arith, facts (c .before .before))))
+last c = made _ true (omega (arith, facts (c .before .before))) (c .literal .ensures)
 
 outputs-ok-requires : tie.Need-outputs-ok-requires
 outputs-ok-requires c κs = let e = last c in search needs

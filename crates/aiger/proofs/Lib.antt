@@ -1,0 +1,6 @@
+-- The laws that belong to no one function.
+pub mod RowLaws
+pub mod WriteLaws
+pub mod LengthLaws
+pub mod FormatLaws
+pub mod Examples

@@ -1,0 +1,63 @@
+-- A run is its steps, one after another: each cycle of a run that is not refused is a step that is not refused. Assumes nothing.
+use mathlib.Core.Path.{_≡_, refl, ap, _∙_}
+use mathlib.Core.Bool.{true}
+use mathlib.Core.List.{List, [], _∷_}
+use Prim.Native.Nat.{ℕ, suc, _+_, _≤_}
+use lib.ListN.{length}
+use Rattle.netlist.specs.Layout.{maximum, inputCount, latchCount}
+use Rattle.netlist.specs.Valid.{isNetlist}
+use Rattle.netlist.proofs.ValidLaws.{valid}
+use Rattle.simulator.specs.declared.refusal.Checked.the-variants.{Passed}
+use Rattle.simulator.specs.declared.tally.Tally.{Tally}
+use Rattle.simulator.specs.Tallies.{hasRoom}
+use Rattle.simulator.specs.Traces.{isCycle, cyclesOf}
+use Rattle.simulator.specs.Refusals.{stepCheck}
+use Rattle.simulator.specs.Step.{StepEnd, outputWord, stepOf}
+use Rattle.simulator.specs.Run.{Running, running, runCycle, runCycles, ranTo}
+use Rattle.simulator.specs.Claims.{afterOutcome, afterStep, steps, RunIsSteps}
+use Rattle.simulator.proofs.TallyLaws.{room-one, room-next}
+use Rattle.simulator.proofs.TraceLaws.{Cycles, cycle-length, lines-are-cycles, length-cycles}
+use Rattle.simulator.proofs.RefusalLaws.{step-passes, run-passed}
+use Rattle.simulator.proofs.CycleLaws.{latches-length, values-length}
+use Rattle.simulator.proofs.StepLaws.{step-is}
+use Rattle.simulator.proofs.RunLaws.{run-is}
+
+module _ (net : List ℕ) (v : isNetlist net ≡ true) where
+  -- a step that is not refused is a cycle of a run
+  one-step : (c : List ℕ) (r : Running) → stepCheck net c (length (r .latches)) (length (r .values)) (r .tally) ≡ Passed
+      → runCycle net c r ≡ afterStep (stepOf net c (r .latches) (r .values) (r .tally)) r
+  unfolding runCycle afterStep afterOutcome
+  one-step c r e = ap (λ (x : StepEnd). afterStep x r) (step-is net c (r .latches) (r .values) (r .tally) e)
+
+  -- the buffers keep their lengths, and the tally its room
+  module _ (c : List ℕ) (r : Running) (h : isCycle (inputCount net) c ≡ true) (l : latchCount net ≤ length (r .latches)) (m : maximum net + 1 ≤ length (r .values)) where
+    latches-stay : latchCount net ≤ length (runCycle net c r .latches)
+    unfolding runCycle
+    latches-stay = rw (latches-length net c (r .latches) (r .values) (valid net v) (cycle-length (inputCount net) c h) l) l
+
+    values-stay : maximum net + 1 ≤ length (runCycle net c r .values)
+    unfolding runCycle
+    values-stay = rw (values-length net c (r .latches) (r .values) (valid net v) (cycle-length (inputCount net) c h) l m) m
+
+    room-stays : (n : ℕ) → hasRoom (r .tally) (suc n) ≡ true → hasRoom (runCycle net c r .tally) n ≡ true
+    unfolding runCycle
+    room-stays n e = room-next (r .tally) (outputWord net c (r .latches)) n e
+
+  pub cycles-steps : (cs : List (List ℕ)) (r : Running) → Cycles (inputCount net) cs → latchCount net ≤ length (r .latches) → maximum net + 1 ≤ length (r .values)
+      → hasRoom (r .tally) (length cs) ≡ true → runCycles net r cs ≡ steps net r cs
+  unfolding runCycles steps Cycles
+  cycles-steps [] r cy l m x = refl
+  cycles-steps (c ∷ cs) r cy l m x =
+      let passes = step-passes net c (length (r .latches)) (length (r .values)) (r .tally)
+      (record { netlist = v; bits = cy .0; latches = l; values = m; room = room-one (r .tally) (length cs) x }) in
+      cycles-steps cs (runCycle net c r) (cy .1) (latches-stay c r (cy .0) l m) (values-stay c r (cy .0) l m) (room-stays c r (cy .0) l m (length cs) x)
+      ∙ ap (λ (q : Running). steps net q cs) (one-step c r passes)
+
+-- a run that is not refused answers and leaves what its steps do
+pub run-is-steps : (net trace latches values verdicts : List ℕ) (t : Tally) → RunIsSteps net trace latches values verdicts t
+run-is-steps net trace latches values verdicts t e =
+    let p = run-passed net trace (length latches) (length values) (length verdicts) t e in
+    run-is net trace latches values verdicts t e
+    ∙ ap (λ (r : Running). ranTo r verdicts)
+    (cycles-steps net (p .netlist) (cyclesOf (inputCount net) trace) (running latches values [] t) (lines-are-cycles (inputCount net) trace (p .faultless)) (p .latches) (p .values)
+    (rw (length-cycles (inputCount net) trace) (p .room)))

@@ -1,0 +1,120 @@
+// The simulator of netlists: start, step and run over lent latch words, value words and verdict
+// bytes, 64 lanes at a time, with the caller's tally by value. Knows nothing of graphs. Exports that
+// each step computes, in every lane, the one valuation that AIGER's equations allow, and that a run is
+// its steps one after another.
+ghost use mathlib.Core.Path.{_≡_};
+ghost use Prim.Native.Nat.{ℕ};
+ghost use Rattle.simulator.specs.Start.{startEnd, startOf};
+ghost use Rattle.simulator.specs.Step.{stepEnd, stepOf};
+ghost use Rattle.simulator.specs.Run.{runEnd, runOf};
+ghost use Rattle.simulator.specs.Claims.{StartMeans, StepMeans, RejectedByLane, RunIsSteps};
+
+mod cycle;
+mod latches;
+mod layout;
+mod outcome;
+mod refusal;
+mod running;
+mod tally;
+mod trace;
+
+use crate::cycle::advance;
+use crate::latches::starts;
+use crate::layout::LATCHES;
+use crate::layout::header;
+use crate::refusal::Checked;
+use crate::refusal::run_check;
+use crate::refusal::start_check;
+use crate::refusal::step_check;
+use crate::running::run_cycles;
+use crate::tally::tallied;
+pub use outcome::Ran;
+pub use outcome::RunOutcome;
+pub use outcome::StartOutcome;
+pub use outcome::Started;
+pub use outcome::StepOutcome;
+pub use outcome::Stepped;
+pub use outcome::Verdict;
+pub use refusal::Cause;
+pub use tally::Tally;
+
+// Starts a run: fills the latch words and clears the tally.
+pub fn start(net: &[u16], latches: &mut [u64], tally: Tally) -> Started
+    ensures { λ r. ⌜ startEnd r (now (latches .exit)) ≡ startOf (now (net .entry)) (now (latches .entry)) tally ⌝ }
+    ensures lanes { λ _. ⌜ StartMeans (now (net .entry)) (now (latches .entry)) tally ⌝ }
+{
+    let checked = start_check(net, latches.len());
+    match checked {
+        Checked::Failed(cause) => Started {
+            outcome: StartOutcome::Refused(cause),
+            tally,
+        },
+        Checked::Passed => {
+            starts(net, header(net, LATCHES), latches);
+            Started {
+                outcome: StartOutcome::Ready,
+                tally: Tally {
+                    cycles: 0,
+                    rejected: 0,
+                },
+            }
+        }
+    }
+}
+
+// Runs one cycle: fills the value words, moves the latches together and brings the tally up to date.
+pub fn step(
+    net: &[u16],
+    cycle: &[u8],
+    latches: &mut [u64],
+    values: &mut [u64],
+    tally: Tally,
+) -> Stepped
+    ensures { λ r. ⌜ stepEnd r (now (latches .exit)) (now (values .exit)) ≡ stepOf (now (net .entry)) (now (cycle .entry)) (now (latches .entry)) (now (values .entry)) tally ⌝ }
+    ensures aiger { λ _. ⌜ StepMeans (now (net .entry)) (now (cycle .entry)) (now (latches .entry)) (now (values .entry)) tally ⌝ }
+    ensures rejected { λ _. ⌜ ((w : ℕ) → RejectedByLane w) ⌝ }
+{
+    let checked = step_check(net, cycle, latches.len(), values.len(), tally);
+    match checked {
+        Checked::Failed(cause) => Stepped {
+            outcome: StepOutcome::Refused(cause),
+            tally,
+        },
+        Checked::Passed => {
+            let word = advance(net, cycle, latches, values);
+            Stepped {
+                outcome: StepOutcome::Output(word),
+                tally: tallied(tally, word),
+            }
+        }
+    }
+}
+
+// Runs a trace: one cycle a line, each with its byte in verdicts.
+pub fn run(
+    net: &[u16],
+    trace: &[u8],
+    latches: &mut [u64],
+    values: &mut [u64],
+    verdicts: &mut [u8],
+    tally: Tally,
+) -> Ran
+    ensures { λ r. ⌜ runEnd r (now (latches .exit)) (now (values .exit)) (now (verdicts .exit)) ≡ runOf (now (net .entry)) (now (trace .entry)) (now (latches .entry)) (now (values .entry)) (now (verdicts .entry)) tally ⌝ }
+    ensures steps { λ _. ⌜ RunIsSteps (now (net .entry)) (now (trace .entry)) (now (latches .entry)) (now (values .entry)) (now (verdicts .entry)) tally ⌝ }
+{
+    let checked = run_check(
+        net,
+        trace,
+        latches.len(),
+        values.len(),
+        verdicts.len(),
+        tally,
+    );
+    match checked {
+        Checked::Failed(cause) => Ran {
+            outcome: RunOutcome::Refused(cause),
+            tally,
+        },
+        Checked::Passed => run_cycles(net, trace, latches, values, verdicts, tally),
+    }
+}

@@ -1,0 +1,40 @@
+// What start, step and run answer: an outcome, and the tally, which a refusal hands back as it was.
+use crate::refusal::Cause;
+use crate::tally::Tally;
+
+pub enum StartOutcome {
+    Ready,
+    Refused(Cause),
+}
+
+pub struct Started {
+    pub outcome: StartOutcome,
+    pub tally: Tally,
+}
+
+pub enum StepOutcome {
+    // The output word.
+    Output(u64),
+    Refused(Cause),
+}
+
+pub struct Stepped {
+    pub outcome: StepOutcome,
+    pub tally: Tally,
+}
+
+// Of a run: that of its last cycle, accepted where there is none.
+pub enum Verdict {
+    Accepted,
+    Rejected,
+}
+
+pub enum RunOutcome {
+    Done(Verdict),
+    Refused(Cause),
+}
+
+pub struct Ran {
+    pub outcome: RunOutcome,
+    pub tally: Tally,
+}

@@ -1,0 +1,72 @@
+// The cycles of a run that is not refused, one after another.
+ghost use mathlib.Core.Path.{_≡_};
+ghost use Prim.Native.Nat.{_≤_};
+ghost use lib.ListN.{length, take};
+ghost use Rattle.simulator.specs.declared.refusal.Checked.the-variants.{Passed};
+ghost use Rattle.simulator.specs.Refusals.{runCheck};
+ghost use Rattle.simulator.specs.Run.{verdictByte, verdictOf, runEnd, runOf};
+use crate::cycle::advance;
+use crate::layout::INPUTS;
+use crate::layout::header;
+use crate::outcome::Ran;
+use crate::outcome::RunOutcome;
+use crate::outcome::Verdict;
+use crate::tally::Tally;
+use crate::tally::is_rejected;
+use crate::tally::tallied;
+use crate::trace::cycle_at;
+
+// The byte of a cycle with this output word: 1 rejected, 0 accepted.
+fn verdict_byte(word: u64) -> u8
+    ensures { λ r. ⌜ r ≡ verdictByte word ⌝ }
+{
+    if is_rejected(word) { 1 } else { 0 }
+}
+
+// The verdict of a run of so many cycles: that of its last, accepted where there is none.
+fn verdict(verdicts: &[u8], cycles: usize) -> Verdict
+    requires { ⌜ cycles ≤ length (now verdicts) ⌝ }
+    ensures { λ r. ⌜ r ≡ verdictOf (take cycles (now (verdicts .entry))) ⌝ }
+{
+    if cycles == 0 {
+        return Verdict::Accepted;
+    }
+    let last = verdicts[cycles - 1];
+    if last == 0 {
+        Verdict::Accepted
+    } else {
+        Verdict::Rejected
+    }
+}
+
+// Runs the cycles of a trace: the netlist was tested, and no cycle is tested again.
+pub fn run_cycles(
+    net: &[u16],
+    trace: &[u8],
+    latches: &mut [u64],
+    values: &mut [u64],
+    verdicts: &mut [u8],
+    tally: Tally,
+) -> Ran
+    requires { ⌜ runCheck (now net) (now trace) (length (now latches)) (length (now values)) (length (now verdicts)) tally ≡ Passed ⌝ }
+    ensures { λ r. ⌜ runEnd r (now (latches .exit)) (now (values .exit)) (now (verdicts .exit)) ≡ runOf (now (net .entry)) (now (trace .entry)) (now (latches .entry)) (now (values .entry)) (now (verdicts .entry)) tally ⌝ }
+{
+    let n = header(net, INPUTS);
+    let lines = trace.len() / (n + 1);
+    let mut total = tally;
+    let mut at: usize = 0;
+    let mut k: usize = 0;
+    while k < lines {
+        let cycle = cycle_at(trace, at, n);
+        let word = advance(net, cycle, latches, values);
+        verdicts[k] = verdict_byte(word);
+        total = tallied(total, word);
+        at += n + 1;
+        k += 1;
+    }
+    let last = verdict(verdicts, lines);
+    Ran {
+        outcome: RunOutcome::Done(last),
+        tally: total,
+    }
+}

@@ -1,0 +1,127 @@
+-- Worked examples of monitors, by their numbers and by what they answer in one lane; a byte 48 is `0`, 49 is `1`. Assumes nothing.
+use Prim.Native.Nat.{ℕ}
+use mathlib.Core.Path.{_≡_, refl}
+use mathlib.Core.Bool.{Bool, true, false}
+use mathlib.Core.List.{List, [], _∷_, map}
+use lib.ListN.{length}
+use Rattle.netlist.specs.Meaning.{bools, signed, litOf, bitOf, gateOf, front, valuesOf, nextsOf, nextOf, outputOf}
+use Rattle.netlist.specs.Valid.{isFree}
+use Rattle.netlist.specs.Literals.{literalOf, variableOf, isInverted}
+use Rattle.assertion.specs.Graph.{Bytes, Expr, signal, constant, truth, Edge, Graph, Cycle, isTerminal}
+use Rattle.circuit.specs.Gates.{inv, gate}
+use Rattle.circuit.specs.Build.{firstEdgeLatch, firstGate, formula, happyOr, condemnedOr, edgePiece, masked, gathered, judged, accepted, gatesOf}
+use Rattle.circuit.specs.Numbers.{numbersOf}
+use Rattle.circuit.specs.Count.{formulaGates, gateFormula}
+
+abbrev p : Bytes
+p = 112 ∷ []
+
+abbrev q : Bytes
+q = 113 ∷ []
+
+abbrev edge : ℕ → ℕ → Bool → Expr → Bytes → Expr → Bytes → Edge
+edge f t m a at c ct =
+    record { from = f; to = t; marked = m; antecedent = a; consequent = c; antecedentText = at; consequentText = ct }
+
+-- `S p`, `S q`, `V a`, `V b` and these edges
+abbrev graph : List Edge → Graph
+graph es = record { signals = p ∷ q ∷ []; constants = []; vertices = (97 ∷ []) ∷ (98 ∷ []) ∷ []; edges = es }
+
+-- `E a b t p q`, and `E b b t p 1`
+abbrev first : Edge
+first = edge 0 1 true (signal 0) p (signal 1) q
+
+abbrev loop : Edge
+loop = edge 1 1 true (signal 0) p (truth true) (49 ∷ [])
+
+-- `E a b - p q`
+abbrev unmarked : Edge
+unmarked = edge 0 1 false (signal 0) p (signal 1) q
+
+-- ---- document 01's numbers of G
+numbers-of-G : numbersOf (graph (first ∷ []))
+    ≡ 12 ∷ 3 ∷ 2 ∷ 1 ∷ 7 ∷ 18 ∷ 0 ∷ 25 ∷ 0 ∷ 24 ∷ 8 ∷ 3 ∷ 10 ∷ 3 ∷ 4 ∷ 2 ∷ 16 ∷ 6 ∷ 16 ∷ 7 ∷ 4 ∷ 0 ∷ 23 ∷ 21 ∷ []
+unfolding numbersOf gatesOf accepted judged gathered masked firstGate firstEdgeLatch edgePiece condemnedOr happyOr formula gate inv literalOf variableOf isInverted isTerminal
+numbers-of-G = refl
+
+-- ---- G with `E b b t p 1`: 17 gates, and the formula says so
+gates-of-two : length (gatesOf (graph (first ∷ loop ∷ []))) ≡ 17
+unfolding gatesOf accepted judged gathered masked firstGate firstEdgeLatch edgePiece condemnedOr happyOr formula gate inv literalOf variableOf isInverted isTerminal
+gates-of-two = refl
+
+formula-of-two : gateFormula (graph (first ∷ loop ∷ [])) ≡ 17
+unfolding gateFormula formulaGates isTerminal
+formula-of-two = refl
+
+-- ---- no terminal edge: the output is literal 1
+always-accepts : accepted (graph (unmarked ∷ [])) .out ≡ 1
+unfolding accepted judged gathered masked firstGate firstEdgeLatch edgePiece condemnedOr happyOr formula gate inv literalOf variableOf isInverted isTerminal
+always-accepts = refl
+
+-- ---- what a monitor answers in one lane, cycle for cycle: true accepts
+abbrev answers : List ℕ → List Bool → List Cycle → List Bool
+answers net latches [] = []
+answers net latches (c ∷ cs) =
+    outputOf bools net 0 (valuesOf bools net (map (bitOf bools) c) latches)
+    ∷ answers net (nextOf bools net (valuesOf bools net (map (bitOf bools) c) latches)) cs
+
+-- G on 110, 111, 010: the first cycle alone is rejected
+rejects-one : answers (numbersOf (graph (first ∷ []))) (false ∷ false ∷ []) ((49 ∷ 49 ∷ 48 ∷ []) ∷ (49 ∷ 49 ∷ 49 ∷ []) ∷ (48 ∷ 49 ∷ 48 ∷ []) ∷ []) ≡ false ∷ true ∷ true ∷ []
+unfolding numbersOf gatesOf accepted judged gathered masked firstGate firstEdgeLatch edgePiece condemnedOr happyOr formula gate inv literalOf variableOf isInverted isTerminal outputOf nextOf nextsOf valuesOf front Rattle.netlist.specs.Meaning.gatesOf gateOf bitOf litOf signed
+rejects-one = refl
+
+-- G without init, 010, and with a false antecedent, 100
+no-init : answers (numbersOf (graph (first ∷ []))) (false ∷ false ∷ []) ((48 ∷ 49 ∷ 48 ∷ []) ∷ (49 ∷ 48 ∷ 48 ∷ []) ∷ []) ≡ true ∷ true ∷ []
+unfolding numbersOf gatesOf accepted judged gathered masked firstGate firstEdgeLatch edgePiece condemnedOr happyOr formula gate inv literalOf variableOf isInverted isTerminal outputOf nextOf nextsOf valuesOf front Rattle.netlist.specs.Meaning.gatesOf gateOf bitOf litOf signed
+no-init = refl
+
+-- G with `E b b t p 1` on 110, 011, 001: a condemned path goes on, and a false antecedent excuses it
+rejects-two : answers (numbersOf (graph (first ∷ loop ∷ []))) (false ∷ false ∷ false ∷ false ∷ []) ((49 ∷ 49 ∷ 48 ∷ []) ∷ (48 ∷ 49 ∷ 49 ∷ []) ∷ (48 ∷ 48 ∷ 49 ∷ []) ∷ []) ≡ false ∷ false ∷ true ∷ []
+unfolding numbersOf gatesOf accepted judged gathered masked firstGate firstEdgeLatch edgePiece condemnedOr happyOr formula gate inv literalOf variableOf isInverted isTerminal outputOf nextOf nextsOf valuesOf front Rattle.netlist.specs.Meaning.gatesOf gateOf bitOf litOf signed
+rejects-two = refl
+
+-- the same on 110, 111: the path starts anew at the latest init; and on 111, 011: a happy path goes on
+starts-anew : answers (numbersOf (graph (first ∷ loop ∷ []))) (false ∷ false ∷ false ∷ false ∷ []) ((49 ∷ 49 ∷ 48 ∷ []) ∷ (49 ∷ 49 ∷ 49 ∷ []) ∷ (48 ∷ 49 ∷ 49 ∷ []) ∷ []) ≡ false ∷ true ∷ true ∷ []
+unfolding numbersOf gatesOf accepted judged gathered masked firstGate firstEdgeLatch edgePiece condemnedOr happyOr formula gate inv literalOf variableOf isInverted isTerminal outputOf nextOf nextsOf valuesOf front Rattle.netlist.specs.Meaning.gatesOf gateOf bitOf litOf signed
+starts-anew = refl
+
+-- G with `-` for `t` on 110
+no-terminal : answers (numbersOf (graph (unmarked ∷ []))) (false ∷ false ∷ []) ((49 ∷ 49 ∷ 48 ∷ []) ∷ []) ≡ true ∷ []
+unfolding numbersOf gatesOf accepted judged gathered masked firstGate firstEdgeLatch edgePiece condemnedOr happyOr formula gate inv literalOf variableOf isInverted isTerminal outputOf nextOf nextsOf valuesOf front Rattle.netlist.specs.Meaning.gatesOf gateOf bitOf litOf signed
+no-terminal = refl
+
+-- `E b b t 1 0`, `E a b - 1 1` and the other way round, each on 100, 000: the second cycle is rejected, by the path through b
+abbrev to-b : Edge
+to-b = edge 0 1 false (truth true) (49 ∷ []) (truth true) (49 ∷ [])
+
+abbrev at-b : Edge
+at-b = edge 1 1 true (truth true) (49 ∷ []) (truth false) (48 ∷ [])
+
+-- the edge that enters b stands last
+enters-last : answers (numbersOf (graph (at-b ∷ to-b ∷ []))) (false ∷ false ∷ false ∷ false ∷ []) ((49 ∷ 48 ∷ 48 ∷ []) ∷ (48 ∷ 48 ∷ 48 ∷ []) ∷ []) ≡ true ∷ false ∷ []
+unfolding numbersOf gatesOf accepted judged gathered masked firstGate firstEdgeLatch edgePiece condemnedOr happyOr formula gate inv literalOf variableOf isInverted isTerminal outputOf nextOf nextsOf valuesOf front Rattle.netlist.specs.Meaning.gatesOf gateOf bitOf litOf signed
+enters-last = refl
+
+-- the edge that enters b stands first
+enters-first : answers (numbersOf (graph (to-b ∷ at-b ∷ []))) (false ∷ false ∷ false ∷ false ∷ []) ((49 ∷ 48 ∷ 48 ∷ []) ∷ (48 ∷ 48 ∷ 48 ∷ []) ∷ []) ≡ true ∷ false ∷ []
+unfolding numbersOf gatesOf accepted judged gathered masked firstGate firstEdgeLatch edgePiece condemnedOr happyOr formula gate inv literalOf variableOf isInverted isTerminal outputOf nextOf nextsOf valuesOf front Rattle.netlist.specs.Meaning.gatesOf gateOf bitOf litOf signed
+enters-first = refl
+
+-- `S p`, `K k`, one terminal edge `k`/`p` from the start vertex: on 10 the setting 1 rejects, and the latch of k takes every setting
+abbrev G-constant : Graph
+G-constant =
+    record { signals = p ∷ []; constants = (107 ∷ []) ∷ []; vertices = (97 ∷ []) ∷ (98 ∷ []) ∷ []; edges = edge 0 1 true (constant 0) (107 ∷ []) (signal 0) p ∷ [] }
+
+-- the setting 1
+constant-rejects : answers (numbersOf (G-constant)) (true ∷ false ∷ false ∷ []) ((49 ∷ 48 ∷ []) ∷ []) ≡ false ∷ []
+unfolding numbersOf gatesOf accepted judged gathered masked firstGate firstEdgeLatch edgePiece condemnedOr happyOr formula gate inv literalOf variableOf isInverted isTerminal outputOf nextOf nextsOf valuesOf front Rattle.netlist.specs.Meaning.gatesOf gateOf bitOf litOf signed
+constant-rejects = refl
+
+-- the setting 0
+constant-accepts : answers (numbersOf (G-constant)) (false ∷ false ∷ false ∷ []) ((49 ∷ 48 ∷ []) ∷ []) ≡ true ∷ []
+unfolding numbersOf gatesOf accepted judged gathered masked firstGate firstEdgeLatch edgePiece condemnedOr happyOr formula gate inv literalOf variableOf isInverted isTerminal outputOf nextOf nextsOf valuesOf front Rattle.netlist.specs.Meaning.gatesOf gateOf bitOf litOf signed
+constant-accepts = refl
+
+constant-free : isFree (numbersOf G-constant) 0 ≡ true
+unfolding isFree numbersOf literalOf
+constant-free = refl

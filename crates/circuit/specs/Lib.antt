@@ -1,0 +1,5 @@
+-- The root of the definitions, in reading order.
+pub mod Gates
+pub mod Build
+pub mod Numbers
+pub mod Count

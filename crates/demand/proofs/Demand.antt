@@ -1,0 +1,192 @@
+-- Demand 3: on the monitor of a graph, whatever is called after start, tally and verdict bytes are what the paths say. Assumes nothing.
+use Prim.Native.Nat.{ℕ, zero, suc, _+_, _-_, _*_, _<_, _≤_}
+use mathlib.Core.Path.{_≡_, refl, ap, ap₂, sym, _∙_}
+use mathlib.Core.Bool.{Bool, true, false, cond}
+use mathlib.Core.List.{List, [], _∷_, _++_, map, append-nil}
+use native.Mathlib.Omega.{arith}
+use lib.Dec.{eqb, ltb}
+use lib.ListN.{length, getD, drop, length-append, length-map, List·getD-append, List·getD-map}
+use lib.Seq.{ext-getD, getD-append-add, take-at}
+use borrow.Author.Tests.{ltb-true, ltb-false}
+use Rattle.netlist.specs.Layout.{inputCount, latchCount, resetAt}
+use Rattle.netlist.specs.Lanes.{lane}
+use Rattle.netlist.specs.Valid.{isFree, freeCount}
+use Rattle.netlist.proofs.LaneLaws.{lane-zero, lane-word}
+use Rattle.assertion.specs.Graph.{Edge, Graph, Cycle}
+use Rattle.assertion.specs.Paths.{verdicts, countRejected}
+use Rattle.circuit.specs.Build.{gatesOf}
+use Rattle.circuit.specs.Numbers.{numbersOf}
+use Rattle.circuit.proofs.Fits.{Fits}
+use Rattle.circuit.proofs.Tokens.{fresh}
+use Rattle.circuit.proofs.Lanes.{laneSetting, laneTokens, setting-length, setting-at, fresh-length}
+use Rattle.circuit.proofs.Count.{count, bound}
+use Rattle.circuit.proofs.Places.{latch-count, reset-edge, free-constant, free-edge, free-before}
+use Rattle.circuit.proofs.Machine.{flatTokens, latchesOf, flat-length}
+use Rattle.circuit.proofs.Netlist.{numbers-netlist}
+use Rattle.simulator.specs.declared.refusal.Checked.{Checked}
+use Rattle.simulator.specs.declared.refusal.Checked.the-variants.{Passed, Failed}
+use Rattle.simulator.specs.declared.tally.Tally.{Tally}
+use Rattle.simulator.specs.Tallies.{cleared}
+use Rattle.simulator.specs.Traces.{cyclesOf}
+use Rattle.simulator.specs.Refusals.{startCheck, stepCheck, runCheck}
+use Rattle.simulator.specs.Start.{startBit, startWords, startAs, startOf}
+use Rattle.simulator.specs.Step.{stepAs, stepOf}
+use Rattle.simulator.specs.Run.{running, runCycles, ranTo, runAs, runOf}
+use Rattle.simulator.proofs.TraceLaws.{cycle-length, Cycles, lines-are-cycles}
+use Rattle.simulator.proofs.RefusalLaws.{step-passed, run-passed}
+use Rattle.simulator.proofs.StartLaws.{length-starts, start-at}
+use Rattle.demand.specs.Calls.{Call, stepCall, runCall, Kept, Called, called, stepGives, runGives}
+use Rattle.demand.specs.Demand.{BytesRight, Counted, keptBy, Demand3}
+use Rattle.demand.proofs.Held.{Whole, Right, verdicts-length, one-more, many}
+
+-- no token anywhere
+fresh-at : (es : List Edge) (j : ℕ) → getD (flatTokens (fresh es)) j false ≡ false
+fresh-at [] j = refl
+fresh-at (e ∷ es) zero = refl
+fresh-at (e ∷ es) (suc zero) = refl
+fresh-at (e ∷ es) (suc (suc j)) = fresh-at es j
+
+whole : (n : ℕ) (cs : List Cycle) → Cycles n cs → Whole n cs
+unfolding Cycles
+whole n [] h = tt
+whole n (c ∷ cs) h = (cycle-length n c (h .0), whole n cs (h .1))
+
+module _ (g : Graph) (fits : Fits g) (surplus : List ℕ) where
+  abbrev K : ℕ
+  K = length (g .constants)
+
+  abbrev E : ℕ
+  E = length (g .edges)
+
+  abbrev net : List ℕ
+  net = numbersOf g ++ surplus
+
+  -- ---- start: each lane has its setting, and no token
+  abbrev begun : ℕ → List Bool
+  begun n = latchesOf (laneSetting g n) (fresh (g .edges))
+
+  begun-length : (n : ℕ) → length (begun n) ≡ K + 2 * E
+  unfolding latchesOf
+  begun-length n =
+      omega (
+        arith,
+        length-append (laneSetting g n) (flatTokens (fresh (g .edges))),
+        setting-length g n,
+        flat-length (fresh (g .edges)),
+        fresh-length (g .edges),
+      )
+
+  start-bit : (n k : ℕ) → k < K + 2 * E → startBit net k n ≡ getD (begun n) k false
+  unfolding startBit latchesOf
+  start-bit n k h = by (ltb k K) refl
+    where
+      by : (b : Bool) → ltb k K ≡ b → startBit net k n ≡ getD (begun n) k false
+      by true e =
+          let l : k < K = ltb-true k K e in
+          ap (λ (b : Bool). cond b (lane (freeCount net k) n) (eqb (getD net (resetAt k) 0) 1)) (free-constant g surplus k l)
+          ∙ ap (λ (j : ℕ). lane j n) (free-before g surplus k (omega arith))
+          ∙ sym (setting-at g n k l)
+          ∙ sym (List·getD-append (laneSetting g n) (flatTokens (fresh (g .edges))) false k (omega (arith, setting-length g n)))
+      by false e =
+          let l : K ≤ k = ltb-false k K e in
+          let i : K + (k - K) ≡ k = omega arith in
+          let j : length (laneSetting g n) + (k - K) ≡ k = omega (arith, setting-length g n) in
+          let f : isFree net k ≡ false = ap (isFree net) (sym i) ∙ free-edge g surplus (k - K) (omega arith) in
+          let z : getD net (resetAt k) 0 ≡ 0 = ap (λ (m : ℕ). getD net (resetAt m) 0) (sym i) ∙ reset-edge g surplus (k - K) (omega arith) in
+          ap₂ (λ (b : Bool) (m : ℕ). cond b (lane (freeCount net k) n) (eqb m 1)) f z
+          ∙ sym (fresh-at (g .edges) (k - K))
+          ∙ sym (getD-append-add (laneSetting g n) (flatTokens (fresh (g .edges))) (k - K) false)
+          ∙ ap (λ (m : ℕ). getD (begun n) m false) j
+
+  start-lane : (n : ℕ) → n < 64 → map (lane n) (startWords net (latchCount net)) ≡ begun n
+  start-lane n h =
+      let S = startWords net (latchCount net) in
+      let m : length (map (lane n) S) ≡ latchCount net = length-map S (lane n) ∙ length-starts net (latchCount net) in
+      let c = latch-count g surplus in
+      ext-getD false (map (lane n) S) (begun n) (m ∙ c ∙ sym (begun-length n))
+      (λ k l.
+      let b : k < latchCount net = omega arith in
+      ap (getD (map (lane n) S) k) (sym (lane-zero n))
+      ∙ List·getD-map (lane n) S k 0
+      ∙ ap (lane n) (start-at net (latchCount net) k b)
+      ∙ lane-word n (startBit net k) h
+      ∙ start-bit n k (omega arith))
+
+  started : (latches : List ℕ) → Right g fits surplus [] (startWords net (latchCount net) ++ drop (latchCount net) latches) cleared
+  unfolding laneTokens countRejected
+  started latches =
+      record {
+        lanes-are = λ n h.
+            ap (map (lane n)) (take-at (startWords net (latchCount net)) (drop (latchCount net) latches) (latchCount net) (length-starts net (latchCount net)))
+            ∙ start-lane n h;
+        cycles-are = refl;
+        rejected-are = refl;
+      }
+
+  -- ---- a call
+  record After (seen : List Cycle) (x : Call) (d : Called) : Type 0 where
+    kept : Right g fits surplus (seen ++ d .cycles) (d .kept .latches) (d .kept .tally)
+    bytes : BytesRight g seen x d
+
+  module _ (seen : List Cycle) (k : Kept) (r : Right g fits surplus seen (k .latches) (k .tally)) where
+    step-after : (cycle values : List ℕ) → After seen (stepCall cycle values) (called net k (stepCall cycle values))
+    unfolding called stepOf stepAs stepGives BytesRight
+    step-after cycle values = by (stepCheck net cycle (length (k .latches)) (length values) (k .tally)) refl
+      where
+        by : (c : Checked) → stepCheck net cycle (length (k .latches)) (length values) (k .tally) ≡ c
+            → After seen (stepCall cycle values) (record {
+              kept = record { latches = stepAs c net cycle (k .latches) values (k .tally) .latches; tally = stepAs c net cycle (k .latches) values (k .tally) .answer .tally };
+              cycles = stepGives (stepAs c net cycle (k .latches) values (k .tally) .answer .outcome) cycle;
+              verdicts = [];
+            })
+        by Passed e =
+            let p = step-passed net cycle (length (k .latches)) (length values) (k .tally) _ refl e in
+            record { kept = one-more g fits surplus seen cycle (k .latches) (k .tally) (cycle-length (inputCount net) cycle (p .bits)) r; bytes = tt }
+        by (Failed cause) e = record { kept = rw append-nil r; bytes = tt }
+
+    run-after : (trace values bytes : List ℕ) → After seen (runCall trace values bytes) (called net k (runCall trace values bytes))
+    unfolding called runOf runAs runGives ranTo BytesRight
+    run-after trace values bytes = by (runCheck net trace (length (k .latches)) (length values) (length bytes) (k .tally)) refl
+      where
+        by : (c : Checked) → runCheck net trace (length (k .latches)) (length values) (length bytes) (k .tally) ≡ c
+            → After seen (runCall trace values bytes) (record {
+              kept = record { latches = runAs c net trace (k .latches) values bytes (k .tally) .latches; tally = runAs c net trace (k .latches) values bytes (k .tally) .answer .tally };
+              cycles = runGives (runAs c net trace (k .latches) values bytes (k .tally) .answer .outcome) (inputCount net) trace;
+              verdicts = runAs c net trace (k .latches) values bytes (k .tally) .verdicts;
+            })
+        by Passed e =
+            let p = run-passed net trace (length (k .latches)) (length values) (length bytes) (k .tally) e in
+            let cs = cyclesOf (inputCount net) trace in
+            let R = runCycles net (running (k .latches) values [] (k .tally)) cs in
+            let m = many g fits surplus cs seen (running (k .latches) values [] (k .tally)) (whole (inputCount net) cs (lines-are-cycles (inputCount net) trace (p .faultless))) r in
+            record {
+              kept = m .0;
+              bytes = take-at (R .bytes) (drop (length (R .bytes)) bytes) (length cs) (ap length (m .1) ∙ verdicts-length g seen cs) ∙ m .1;
+            }
+        by (Failed cause) e = record { kept = rw append-nil r; bytes = refl }
+
+  call-after : (x : Call) (seen : List Cycle) (k : Kept) → Right g fits surplus seen (k .latches) (k .tally) → After seen x (called net k x)
+  call-after (stepCall cycle values) seen k r = step-after seen k r cycle values
+  call-after (runCall trace values bytes) seen k r = run-after seen k r trace values bytes
+
+  calls-right : (xs : List Call) (seen : List Cycle) (k : Kept) → Right g fits surplus seen (k .latches) (k .tally) → Counted g net seen k xs
+  unfolding Counted
+  calls-right [] seen k r = (r .cycles-are, r .rejected-are)
+  calls-right (x ∷ xs) seen k r =
+      let a = call-after x seen k r in
+      (a .bytes, calls-right xs (seen ++ called net k x .cycles) (called net k x .kept) (a .kept))
+
+  counts : (latches : List ℕ) (t : Tally) → startCheck net (length latches) ≡ Passed → (xs : List Call) → Counted g net [] (keptBy (startOf net latches t)) xs
+  unfolding startOf startAs
+  counts latches t e xs = rw e (calls-right xs [] (record { latches = startWords net (latchCount net) ++ drop (latchCount net) latches; tally = cleared }) (started latches))
+
+-- the monitor's numbers, with any surplus, do what demand 3 asks
+pub demand3 : (g : Graph) → Fits g → length (gatesOf g) + (1 + length (g .signals)) + (length (g .constants) + 2 * length (g .edges)) ≤ 4095
+    → (surplus : List ℕ) → Demand3 g (numbersOf g ++ surplus) (length (gatesOf g))
+demand3 g fits small surplus =
+    record {
+      netlist = numbers-netlist g fits small surplus;
+      formula = count g fits;
+      bound = omega (arith, count g fits, bound g);
+      counted = counts g fits surplus;
+    }

@@ -1,0 +1,94 @@
+-- Demand 3 on document 01's graph G, and the same computed through start and run; 48 is `0`, 49 is `1`, 10 ends a line. Assumes nothing.
+use Prim.Native.Nat.{ℕ}
+use mathlib.Core.Path.{_≡_, refl}
+use mathlib.Core.Bool.{true}
+use mathlib.Core.List.{List, [], _∷_, _++_}
+use lib.Dec.{lit≤, lit<}
+use lib.ListN.{length}
+use Rattle.netlist.specs.Literals.{literalOf, variableOf, isInverted}
+use Rattle.netlist.specs.Lanes.{lane, each, numberOf, wordOf}
+use Rattle.netlist.specs.Meaning.{signed, litOf, bitOf, gateOf, front, valuesOf, nextsOf, nextOf, outputOf}
+use Rattle.netlist.specs.Valid.{headerOk, isWithin, isFree, latchOk, freeCount, outputOk, gateOk, isNetlist}
+use Rattle.assertion.specs.Graph.{Bytes, signal, Graph, isTerminal}
+use Rattle.circuit.specs.Build.{firstEdgeLatch, firstGate, formula, happyOr, condemnedOr, edgePiece, masked, gathered, judged, accepted, gatesOf}
+use Rattle.circuit.specs.Numbers.{numbersOf}
+use Rattle.circuit.proofs.Fits.{Fits}
+use Rattle.simulator.specs.declared.refusal.Checked.the-variants.{Passed}
+use Rattle.simulator.specs.declared.tally.Tally.{Tally}
+use Rattle.simulator.specs.Tallies.{isRejected, counted, hasRoom}
+use Rattle.simulator.specs.Traces.{isBit, fitsLine, faultFrom, faultOf, lineCount, cyclesFrom, cyclesOf}
+use Rattle.simulator.specs.Refusals.{isShort, hasLatches, hasValues, startCheck, runCheck}
+use Rattle.simulator.specs.Start.{startBit, startWords, startAs, startOf}
+use Rattle.simulator.specs.Step.{cycleWords, outputWord, latchesAfter, valuesAfter}
+use Rattle.simulator.specs.Run.{verdictByte, runCycle, runCycles, ranTo, runAs, runOf}
+use Rattle.demand.specs.Calls.{runCall, Kept, called, runGives}
+use Rattle.demand.specs.Demand.{keptBy, Demand3}
+use Rattle.demand.proofs.Demand.{demand3}
+
+abbrev p : Bytes
+p = 112 ∷ []
+
+abbrev q : Bytes
+q = 113 ∷ []
+
+-- `S p`, `S q`, `V a`, `V b`, `E a b t p q`
+abbrev G : Graph
+G =
+    record {
+      signals = p ∷ q ∷ [];
+      constants = [];
+      vertices = (97 ∷ []) ∷ (98 ∷ []) ∷ [];
+      edges = record { from = 0; to = 1; marked = true; antecedent = signal 0; consequent = signal 1; antecedentText = p; consequentText = q } ∷ [];
+    }
+
+fits : Fits G
+fits =
+    record {
+      constants = lit≤ tt;
+      signals = lit≤ tt;
+      vertices = lit≤ tt;
+      edges = (record { antecedent = lit< tt; consequent = lit< tt; from = lit< tt; to = lit< tt }, tt);
+    }
+
+demand-of-G : (surplus : List ℕ) → Demand3 G (numbersOf G ++ surplus) (length (gatesOf G))
+unfolding gatesOf accepted judged gathered masked firstGate firstEdgeLatch edgePiece condemnedOr happyOr formula isTerminal
+demand-of-G = demand3 G fits (lit≤ tt)
+
+-- ---- the same, computed
+abbrev numbers : List ℕ
+numbers = 12 ∷ 3 ∷ 2 ∷ 1 ∷ 7 ∷ 18 ∷ 0 ∷ 25 ∷ 0 ∷ 24 ∷ 8 ∷ 3 ∷ 10 ∷ 3 ∷ 4 ∷ 2 ∷ 16 ∷ 6 ∷ 16 ∷ 7 ∷ 4 ∷ 0 ∷ 23 ∷ 21 ∷ []
+
+abbrev tally : ℕ → ℕ → Tally
+tally c r = record { cycles = c; rejected = r }
+
+-- start is accepted with two latch words
+starts : startCheck numbers 2 ≡ Passed
+unfolding startCheck hasLatches isNetlist headerOk outputOk latchOk gateOk isWithin isFree freeCount each literalOf
+starts = refl
+
+abbrev begun : Kept
+begun = keptBy (startOf numbers (5 ∷ 6 ∷ []) (tally 7 7))
+
+abbrev values : List ℕ
+values = 0 ∷ 0 ∷ 0 ∷ 0 ∷ 0 ∷ 0 ∷ 0 ∷ 0 ∷ 0 ∷ 0 ∷ 0 ∷ 0 ∷ 0 ∷ []
+
+-- 110, 111, 010: the first cycle is rejected, and the surplus of the verdict buffer stays
+abbrev trace : List ℕ
+trace = 49 ∷ 49 ∷ 48 ∷ 10 ∷ 49 ∷ 49 ∷ 49 ∷ 10 ∷ 48 ∷ 49 ∷ 48 ∷ 10 ∷ []
+
+ran-bytes : called numbers begun (runCall trace values (9 ∷ 9 ∷ 9 ∷ 9 ∷ [])) .verdicts ≡ 1 ∷ 0 ∷ 0 ∷ 9 ∷ []
+unfolding called runGives runOf runAs ranTo runCycles runCycle verdictByte runCheck isShort faultOf faultFrom fitsLine lineCount cyclesOf cyclesFrom isBit hasRoom counted isRejected startOf startAs startWords startBit startCheck hasLatches hasValues isNetlist headerOk outputOk latchOk gateOk isWithin isFree freeCount each lane numberOf wordOf literalOf variableOf isInverted outputWord latchesAfter valuesAfter cycleWords outputOf nextOf nextsOf valuesOf front Rattle.netlist.specs.Meaning.gatesOf gateOf bitOf litOf signed
+ran-bytes = refl
+
+ran-tally : called numbers begun (runCall trace values (9 ∷ 9 ∷ 9 ∷ 9 ∷ [])) .kept .tally ≡ tally 3 1
+unfolding called runGives runOf runAs ranTo runCycles runCycle verdictByte runCheck isShort faultOf faultFrom fitsLine lineCount cyclesOf cyclesFrom isBit hasRoom counted isRejected startOf startAs startWords startBit startCheck hasLatches hasValues isNetlist headerOk outputOk latchOk gateOk isWithin isFree freeCount each lane numberOf wordOf literalOf variableOf isInverted outputWord latchesAfter valuesAfter cycleWords outputOf nextOf nextsOf valuesOf front Rattle.netlist.specs.Meaning.gatesOf gateOf bitOf litOf signed
+ran-tally = refl
+
+-- a run with a verdict buffer that is too short is refused: it gives no cycle, and the tally stays
+refused-run : called numbers begun (runCall trace values (9 ∷ 9 ∷ [])) .cycles ≡ []
+unfolding called runGives runOf runAs runCheck isShort faultOf faultFrom fitsLine lineCount isBit hasRoom startOf startAs startWords startCheck hasLatches hasValues isNetlist headerOk outputOk latchOk gateOk isWithin isFree freeCount each literalOf
+refused-run = refl
+
+refused-tally : called numbers begun (runCall trace values (9 ∷ 9 ∷ [])) .kept .tally ≡ tally 0 0
+unfolding called runGives runOf runAs runCheck isShort faultOf faultFrom fitsLine lineCount isBit hasRoom startOf startAs startWords startCheck hasLatches hasValues isNetlist headerOk outputOk latchOk gateOk isWithin isFree freeCount each literalOf
+refused-tally = refl

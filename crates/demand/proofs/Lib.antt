@@ -1,0 +1,4 @@
+-- The root of the laws.
+pub mod Held
+pub mod Demand
+mod Examples

@@ -1,0 +1,42 @@
+-- DEMAND 3. Assumes nothing.
+use mathlib.Core.Path.{_≡_}
+use mathlib.Core.Bool.{true}
+use mathlib.Core.List.{List, [], _∷_, _++_}
+use Prim.Native.Nat.{ℕ, _+_, _*_, _≤_}
+use lib.ListN.{length, take}
+use Rattle.netlist.specs.Valid.{isNetlist}
+use Rattle.assertion.specs.Graph.{Graph, Cycle}
+use Rattle.assertion.specs.Paths.{verdicts, countRejected}
+use Rattle.simulator.specs.declared.refusal.Checked.the-variants.{Passed}
+use Rattle.simulator.specs.declared.tally.Tally.{Tally}
+use Rattle.simulator.specs.Refusals.{startCheck}
+use Rattle.simulator.specs.Start.{StartEnd, startOf}
+use Rattle.circuit.specs.Count.{gateFormula, allOperators}
+use Rattle.demand.specs.Calls.{Call, stepCall, runCall, Kept, Called, called}
+
+-- each accepted run has written 1 for exactly those of its cycles that are rejected, 0 for its others,
+-- where the cycles seen came before it; a refused run has no cycle
+unfoldable pub BytesRight : Graph → List Cycle → Call → Called → Type 0
+BytesRight g seen (stepCall cycle values) d = Unit {0}
+BytesRight g seen (runCall trace values bytes) d = take (length (d .cycles)) (d .verdicts) ≡ verdicts g seen (d .cycles)
+
+-- after a list of calls, before which the cycles seen were given: the tally's cycles are the cycles of
+-- the accepted calls, in call order, and its rejected are those of them that some setting and some
+-- rejecting path condemn
+unfoldable pub Counted : Graph → List ℕ → List Cycle → Kept → List Call → Type 0
+Counted g net seen k [] = (k .tally .cycles ≡ length seen) × (k .tally .rejected ≡ countRejected g seen)
+Counted g net seen k (x ∷ xs) =
+    let d = called net k x in
+    BytesRight g seen x d × Counted g net (seen ++ d .cycles) (d .kept) xs
+
+-- what an accepted start leaves
+abbrev pub keptBy : StartEnd → Kept
+keptBy e = record { latches = e .latches; tally = e .answer .tally }
+
+-- on the netlist net, which was built of the graph g with `made` gates
+pub record Demand3 (g : Graph) (net : List ℕ) (made : ℕ) : Type 0 where
+  pub netlist : isNetlist net ≡ true
+  pub formula : made ≡ gateFormula g
+  pub bound : made ≤ 10 * length (g .edges) + 3 * allOperators (g .edges)
+  pub counted : (latches : List ℕ) (t : Tally) → startCheck net (length latches) ≡ Passed
+      → (xs : List Call) → Counted g net [] (keptBy (startOf net latches t)) xs

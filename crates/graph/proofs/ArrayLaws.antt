@@ -1,0 +1,282 @@
+-- Laws of the arrays that hold the graph read so far, one record after another. Assumes nothing.
+use Prim.Native.Nat.{ℕ, zero, suc, _+_, _-_, _≤_, _<_}
+use mathlib.Core.Path.{_≡_, refl, sym, ap, _∙_}
+use mathlib.Core.Bool.{Bool, true, false}
+use mathlib.Core.List.{List, [], _∷_, _++_, append-assoc}
+use native.Mathlib.Nat.{add-zero}
+use native.Mathlib.Numerals.{add-one}
+use native.Mathlib.Omega.{arith}
+use borrow.Author.Tests.{lt-ltb, le-ltb, le-leb, lt-leb}
+use lib.ListN.{length, take, set, replicate, length-append, length-replicate}
+use lib.Seq.{take-at, set-append-seam}
+use Rattle.assertion.specs.Graph.{Bytes, Edge, Graph}
+use Rattle.graph.specs.Pieces.{lookUp}
+use Rattle.graph.specs.Reading.{namesOf, judgedFormula, lower, addSignal, addConstant, addVertex, edgeOf, unlessFaulty, judgeEdge, addEdge}
+use Rattle.graph.specs.Held.{fieldAt, namePlaces, arcOf, arcsOf, noArc, filled, heldOf}
+use Rattle.graph.specs.Steps.{held, namedOf, recordsOf, Holds, ArcAt, faultyOf, addedOf, withSignal, withConstant, withVertex, withEdge}
+use Rattle.graph.specs.declared.Fault.{Fault}
+use Rattle.graph.specs.declared.Fault.the-variants.{WrongOrder, TooMany, NameRepeated, UnknownVertex}
+use Rattle.graph.specs.declared.Judged.{Judged}
+use Rattle.graph.specs.declared.Judged.the-variants.{Fine, Faulty}
+use Rattle.graph.specs.declared.Found.{Found}
+use Rattle.graph.specs.declared.Arc.{Arc}
+use Rattle.graph.specs.declared.CheckedGraph.{CheckedGraph}
+use Rattle.graph.specs.declared.Added.{Added}
+
+-- ---- arrays filled from the front
+filled-push : {A : Type 0} (n : ℕ) (d : A) (xs : List A) (x : A) → length xs < n → set (filled n d xs) (length xs) x ≡ filled n d (xs ++ (x ∷ []))
+unfolding filled
+filled-push n d xs x h =
+    let e : n - length xs ≡ suc (n - length (xs ++ (x ∷ []))) = omega (arith, length-append xs (x ∷ [])) in
+    rw e (set-append-seam xs d (replicate (n - length (xs ++ (x ∷ []))) d) x ∙ sym (append-assoc xs (x ∷ []) (replicate (n - length (xs ++ (x ∷ []))) d)))
+
+pub filled-length : {A : Type 0} (n : ℕ) (d : A) (xs : List A) → length xs ≤ n → length (filled n d xs) ≡ n
+unfolding filled
+filled-length n d xs h = omega (arith, length-append xs (replicate (n - length xs) d), length-replicate (n - length xs) d)
+
+pub places-length : (text : Bytes) (n c : ℕ) → length (namePlaces text n c) ≡ c
+unfolding namePlaces
+places-length text n zero = refl
+places-length text n (suc c) = ap suc (places-length text (n + 1) c)
+
+pub places-more : (text : Bytes) (n c : ℕ) → namePlaces text n (suc c) ≡ namePlaces text n c ++ (fieldAt text (n + c) 1 ∷ [])
+unfolding namePlaces
+places-more text n zero = rw (add-zero n)
+places-more text n (suc c) =
+    let e : n + 1 + c ≡ n + suc c = omega arith in
+    ap (λ (l : List ℕ). fieldAt text n 1 ∷ l) (places-more text (n + 1) c ∙ rw e)
+
+pub arcs-length : (text : Bytes) (n : ℕ) (es : List Edge) → length (arcsOf text n es) ≡ length es
+unfolding arcsOf
+arcs-length text n [] = refl
+arcs-length text n (e ∷ es) = ap suc (arcs-length text (n + 1) es)
+
+arcs-more : (text : Bytes) (n : ℕ) (es : List Edge) (e : Edge) → arcsOf text n (es ++ (e ∷ [])) ≡ arcsOf text n es ++ (arcOf text (n + length es) e ∷ [])
+unfolding arcsOf
+arcs-more text n [] e = rw (add-zero n)
+arcs-more text n (d ∷ es) e =
+    let z : n + 1 + length es ≡ n + suc (length es) = omega arith in
+    ap (λ (l : List Arc). arcOf text n d ∷ l) (arcs-more text (n + 1) es e ∙ rw z)
+
+-- the first are those given
+pub places-first : (text : Bytes) (m n c : ℕ) → take c (filled m 0 (namePlaces text n c)) ≡ namePlaces text n c
+unfolding filled
+places-first text m n c = take-at (namePlaces text n c) (replicate (m - length (namePlaces text n c)) 0) c (places-length text n c)
+
+places-push : (text : Bytes) (m n c : ℕ) → c < m → set (filled m 0 (namePlaces text n c)) c (fieldAt text (n + c) 1) ≡ filled m 0 (namePlaces text n (c + 1))
+places-push text m n c h =
+    let l = places-length text n c in
+    rw (add-one c, places-more text n c)
+    (ap (λ (k : ℕ). set (filled m 0 (namePlaces text n c)) k (fieldAt text (n + c) 1)) (sym l) ∙ filled-push m 0 (namePlaces text n c) (fieldAt text (n + c) 1) (rw l h))
+
+arcs-push : (text : Bytes) (n : ℕ) (es : List Edge) (e : Edge) → length es < 128 → set (filled 128 noArc (arcsOf text n es)) (length es) (arcOf text (n + length es) e) ≡ filled 128 noArc (arcsOf text n (es ++ (e ∷ [])))
+arcs-push text n es e h =
+    let l = arcs-length text n es in
+    rw (arcs-more text n es e)
+    (ap (λ (k : ℕ). set (filled 128 noArc (arcsOf text n es)) k (arcOf text (n + length es) e)) (sym l) ∙ filled-push 128 noArc (arcsOf text n es) (arcOf text (n + length es) e) (rw l h))
+
+pub none-list : {A : Type 0} (l : List A) → length l ≡ 0 → l ≡ []
+none-list [] h = refl
+none-list (x ∷ l) h = absurd (omega arith)
+
+pub one-more : {A : Type 0} (l : List A) (x : A) → length (l ++ (x ∷ [])) ≡ length l + 1
+one-more l x = length-append l (x ∷ [])
+
+graph-is : {a a2 b b2 c c2 d d2 : ℕ} {n n2 p p2 : List ℕ} {r r2 : List Arc} → a ≡ a2 → b ≡ b2 → c ≡ c2 → d ≡ d2 → n ≡ n2 → p ≡ p2 → r ≡ r2 → _≡_ {A = CheckedGraph} (record { signals = a; constants = b; vertices = c; edges = d; names = n; points = p; arcs = r }) (record { signals = a2; constants = b2; vertices = c2; edges = d2; names = n2; points = p2; arcs = r2 })
+graph-is q r s t u v w = rw (q, r, s, t, u, v, w)
+
+-- ---- what the arrays hold
+module _ (text : Bytes) (g : CheckedGraph) (graph : Graph) (h : Holds text g graph) where
+  pub signals-are : g .signals ≡ length (graph .signals)
+  unfolding heldOf
+  signals-are = ap (λ (x : CheckedGraph). x .signals) (h .arrays)
+
+  pub constants-are : g .constants ≡ length (graph .constants)
+  unfolding heldOf
+  constants-are = ap (λ (x : CheckedGraph). x .constants) (h .arrays)
+
+  pub vertices-are : g .vertices ≡ length (graph .vertices)
+  unfolding heldOf
+  vertices-are = ap (λ (x : CheckedGraph). x .vertices) (h .arrays)
+
+  pub edges-are : g .edges ≡ length (graph .edges)
+  unfolding heldOf
+  edges-are = ap (λ (x : CheckedGraph). x .edges) (h .arrays)
+
+  name-places : g .names ≡ filled 69 0 (namePlaces text 0 (namedOf graph))
+  unfolding heldOf
+  name-places = ap (λ (x : CheckedGraph). x .names) (h .arrays)
+
+  point-places : g .points ≡ filled 64 0 (namePlaces text (namedOf graph) (length (graph .vertices)))
+  unfolding heldOf
+  point-places = ap (λ (x : CheckedGraph). x .points) (h .arrays)
+
+  arc-places : g .arcs ≡ filled 128 noArc (arcsOf text (namedOf graph + length (graph .vertices)) (graph .edges))
+  unfolding heldOf
+  arc-places = ap (λ (x : CheckedGraph). x .arcs) (h .arrays)
+
+  named-is : g .signals + g .constants ≡ namedOf graph
+  named-is = rw (signals-are, constants-are)
+
+  names-are : held text (take (g .signals + g .constants) (g .names)) ≡ namesOf graph
+  names-are = rw (name-places, named-is, places-first text 69 0 (namedOf graph)) (h .names)
+
+  points-are : held text (take (g .vertices) (g .points)) ≡ graph .vertices
+  points-are = rw (point-places, vertices-are, places-first text 64 (namedOf graph) (length (graph .vertices))) (h .points)
+
+  -- a name looked up
+  module _ (n : Bytes) {x : Found} {own : Bytes} (o : own ≡ n) where
+    named-found : x ≡ lookUp own (held text (take (g .signals + g .constants) (g .names))) → lookUp n (namesOf graph) ≡ x
+    named-found e = rw (← names-are, ← o) (sym e)
+
+    point-found : x ≡ lookUp own (held text (take (g .vertices) (g .points))) → lookUp n (graph .vertices) ≡ x
+    point-found e = rw (← points-are, ← o) (sym e)
+
+  -- ---- signals
+  module _ (n : Bytes) where
+    pub signal-late : 0 < g .constants + g .vertices + g .edges → faultyOf g WrongOrder ≡ addedOf text g (addSignal graph n)
+    unfolding addedOf addSignal
+    signal-late l = rw (← constants-are, ← vertices-are, ← edges-are, lt-ltb 0 (g .constants + g .vertices + g .edges) l)
+
+    module _ (l : g .constants + g .vertices + g .edges ≤ 0) where
+      pub signal-many : 63 ≤ g .signals → faultyOf g TooMany ≡ addedOf text g (addSignal graph n)
+      unfolding addedOf addSignal
+      signal-many m = rw (← constants-are, ← vertices-are, ← edges-are, le-ltb 0 (g .constants + g .vertices + g .edges) l, ← signals-are, le-leb 63 (g .signals) m)
+
+      module _ (m : g .signals < 63) {x : Found} {own : Bytes} (o : own ≡ n) (e : x ≡ lookUp own (held text (take (g .signals + g .constants) (g .names)))) where
+        pub signal-again : x .known ≡ true → faultyOf g NameRepeated ≡ addedOf text g (addSignal graph n)
+        unfolding addedOf addSignal
+        signal-again k = rw (← constants-are, ← vertices-are, ← edges-are, le-ltb 0 (g .constants + g .vertices + g .edges) l, ← signals-are, lt-leb 63 (g .signals) m, named-found n o e, k)
+
+        module _ (p : ℕ) (q : p ≡ fieldAt text (recordsOf graph) 1) where
+          plus-signal : withSignal g p ≡ heldOf text (record { signals = graph .signals ++ (n ∷ []); constants = graph .constants; vertices = graph .vertices; edges = graph .edges })
+          unfolding heldOf namePlaces arcsOf
+          plus-signal =
+              let c0 : length (graph .constants) ≡ 0 = omega (arith, constants-are) in
+              let v0 : length (graph .vertices) ≡ 0 = omega (arith, vertices-are) in
+              let e0 : graph .edges ≡ [] = none-list (graph .edges) (omega (arith, edges-are)) in
+              let c1 : length (graph .signals ++ (n ∷ [])) + length (graph .constants) ≡ namedOf graph + 1 = omega (arith, one-more (graph .signals) n) in
+              let s1 : g .signals ≡ namedOf graph = omega (arith, signals-are) in
+              let r1 : recordsOf graph ≡ 0 + namedOf graph = omega (arith, ap length e0) in
+              graph-is (omega (arith, signals-are, one-more (graph .signals) n)) constants-are vertices-are edges-are
+              (rw (name-places, s1, q, r1, c1) (places-push text 69 0 (namedOf graph) (omega arith)))
+              (point-places ∙ rw v0)
+              (arc-places ∙ rw e0)
+
+          pub signal-new : x .known ≡ false → _≡_ {A = Added} (record { judged = Fine; graph = withSignal g p }) (addedOf text g (addSignal graph n))
+          unfolding addedOf addSignal
+          signal-new k =
+              rw (plus-signal, ← constants-are, ← vertices-are, ← edges-are, le-ltb 0 (g .constants + g .vertices + g .edges) l, ← signals-are, lt-leb 63 (g .signals) m, named-found n o e, k)
+
+    -- ---- constants
+    pub constant-late : 0 < g .vertices + g .edges → faultyOf g WrongOrder ≡ addedOf text g (addConstant graph n)
+    unfolding addedOf addConstant
+    constant-late l = rw (← vertices-are, ← edges-are, lt-ltb 0 (g .vertices + g .edges) l)
+
+    module _ (l : g .vertices + g .edges ≤ 0) where
+      pub constant-many : 6 ≤ g .constants → faultyOf g TooMany ≡ addedOf text g (addConstant graph n)
+      unfolding addedOf addConstant
+      constant-many m = rw (← vertices-are, ← edges-are, le-ltb 0 (g .vertices + g .edges) l, ← constants-are, le-leb 6 (g .constants) m)
+
+      module _ (m : g .constants < 6) {x : Found} {own : Bytes} (o : own ≡ n) (e : x ≡ lookUp own (held text (take (g .signals + g .constants) (g .names)))) where
+        pub constant-again : x .known ≡ true → faultyOf g NameRepeated ≡ addedOf text g (addConstant graph n)
+        unfolding addedOf addConstant
+        constant-again k = rw (← vertices-are, ← edges-are, le-ltb 0 (g .vertices + g .edges) l, ← constants-are, lt-leb 6 (g .constants) m, named-found n o e, k)
+
+        module _ (s : g .signals ≤ 63) (p : ℕ) (q : p ≡ fieldAt text (recordsOf graph) 1) where
+          plus-constant : withConstant g p ≡ heldOf text (record { signals = graph .signals; constants = graph .constants ++ (n ∷ []); vertices = graph .vertices; edges = graph .edges })
+          unfolding heldOf namePlaces arcsOf
+          plus-constant =
+              let v0 : length (graph .vertices) ≡ 0 = omega (arith, vertices-are) in
+              let e0 : graph .edges ≡ [] = none-list (graph .edges) (omega (arith, edges-are)) in
+              let c1 : length (graph .signals) + length (graph .constants ++ (n ∷ [])) ≡ namedOf graph + 1 = omega (arith, one-more (graph .constants) n) in
+              let r1 : recordsOf graph ≡ 0 + namedOf graph = omega (arith, ap length e0) in
+              graph-is signals-are (omega (arith, constants-are, one-more (graph .constants) n)) vertices-are edges-are
+              (rw (name-places, named-is, q, r1, c1) (places-push text 69 0 (namedOf graph) (omega (arith, named-is))))
+              (point-places ∙ rw v0)
+              (arc-places ∙ rw e0)
+
+          pub constant-new : x .known ≡ false → _≡_ {A = Added} (record { judged = Fine; graph = withConstant g p }) (addedOf text g (addConstant graph n))
+          unfolding addedOf addConstant
+          constant-new k =
+              rw (plus-constant, ← vertices-are, ← edges-are, le-ltb 0 (g .vertices + g .edges) l, ← constants-are, lt-leb 6 (g .constants) m, named-found n o e, k)
+
+    -- ---- vertices
+    pub vertex-late : 0 < g .edges → faultyOf g WrongOrder ≡ addedOf text g (addVertex graph n)
+    unfolding addedOf addVertex
+    vertex-late l = rw (← edges-are, lt-ltb 0 (g .edges) l)
+
+    module _ (l : g .edges ≤ 0) where
+      pub vertex-many : 64 ≤ g .vertices → faultyOf g TooMany ≡ addedOf text g (addVertex graph n)
+      unfolding addedOf addVertex
+      vertex-many m = rw (← edges-are, le-ltb 0 (g .edges) l, ← vertices-are, le-leb 64 (g .vertices) m)
+
+      module _ (m : g .vertices < 64) {x : Found} {own : Bytes} (o : own ≡ n) (e : x ≡ lookUp own (held text (take (g .vertices) (g .points)))) where
+        pub vertex-again : x .known ≡ true → faultyOf g NameRepeated ≡ addedOf text g (addVertex graph n)
+        unfolding addedOf addVertex
+        vertex-again k = rw (← edges-are, le-ltb 0 (g .edges) l, ← vertices-are, lt-leb 64 (g .vertices) m, point-found n o e, k)
+
+        module _ (p : ℕ) (q : p ≡ fieldAt text (recordsOf graph) 1) where
+          plus-vertex : withVertex g p ≡ heldOf text (record { signals = graph .signals; constants = graph .constants; vertices = graph .vertices ++ (n ∷ []); edges = graph .edges })
+          unfolding heldOf namePlaces arcsOf
+          plus-vertex =
+              let e0 : graph .edges ≡ [] = none-list (graph .edges) (omega (arith, edges-are)) in
+              let r1 : recordsOf graph ≡ namedOf graph + length (graph .vertices) = omega (arith, ap length e0) in
+              graph-is signals-are constants-are (omega (arith, vertices-are, one-more (graph .vertices) n)) edges-are name-places
+              (rw (point-places, vertices-are, q, r1, one-more (graph .vertices) n) (places-push text 64 (namedOf graph) (length (graph .vertices)) (omega (arith, vertices-are))))
+              (arc-places ∙ rw e0)
+
+          pub vertex-new : x .known ≡ false → _≡_ {A = Added} (record { judged = Fine; graph = withVertex g p }) (addedOf text g (addVertex graph n))
+          unfolding addedOf addVertex
+          vertex-new k = rw (plus-vertex, ← edges-are, le-ltb 0 (g .edges) l, ← vertices-are, lt-leb 64 (g .vertices) m, point-found n o e, k)
+
+  -- ---- edges
+  abbrev listed : List Bytes
+  listed = held text (take (g .signals + g .constants) (g .names))
+
+  module _ (from to : ℕ) (marked : Bool) (a c : Bytes) {x : Judged} (j : x ≡ lower (judgedFormula listed a) (judgedFormula listed c)) where
+    both : lower (judgedFormula (namesOf graph) a) (judgedFormula (namesOf graph) c) ≡ x
+    both = rw (← names-are) (sym j)
+
+    pub edge-fault : {f : Fault} → x ≡ Faulty f → faultyOf g f ≡ addedOf text g (judgeEdge graph from to marked a c)
+    unfolding addedOf judgeEdge unlessFaulty
+    edge-fault k = rw (both, k)
+
+  same-arc : (e : Arc) → ArcAt text (recordsOf graph) e → (a c : Bytes) → e ≡ arcOf text (recordsOf graph) (edgeOf graph (e .from) (e .to) (e .marked) a c)
+  unfolding arcOf edgeOf
+  same-arc e w a c = rw (← w .left, ← w .lefts, ← w .right, ← w .rights)
+
+  plus : (e : Arc) → ArcAt text (recordsOf graph) e → g .edges < 128 → (a c : Bytes) → withEdge g e ≡ heldOf text (record { signals = graph .signals; constants = graph .constants; vertices = graph .vertices; edges = graph .edges ++ (edgeOf graph (e .from) (e .to) (e .marked) a c ∷ []) })
+  unfolding heldOf arcOf edgeOf
+  plus e w l a c =
+      graph-is signals-are constants-are vertices-are (omega (arith, edges-are, one-more (graph .edges) (edgeOf graph (e .from) (e .to) (e .marked) a c))) name-places point-places
+      (rw (arc-places, edges-are, arc-is) (arcs-push text (namedOf graph + length (graph .vertices)) (graph .edges) (edgeOf graph (e .from) (e .to) (e .marked) a c) (omega (arith, edges-are))))
+    where
+      arc-is : e ≡ arcOf text (recordsOf graph) (edgeOf graph (e .from) (e .to) (e .marked) a c)
+      arc-is = same-arc e w a c
+
+  pub edge-new : (e : Arc) → ArcAt text (recordsOf graph) e → g .edges < 128 → (a c : Bytes) {x : Judged} → x ≡ lower (judgedFormula listed a) (judgedFormula listed c) → x ≡ Fine → _≡_ {A = Added} (record { judged = Fine; graph = withEdge g e }) (addedOf text g (judgeEdge graph (e .from) (e .to) (e .marked) a c))
+  unfolding addedOf judgeEdge unlessFaulty
+  edge-new e w l a c {x} j k = rw (plus-edge, both (e .from) (e .to) (e .marked) a c j, k)
+    where
+      plus-edge : withEdge g e ≡ heldOf text (record { signals = graph .signals; constants = graph .constants; vertices = graph .vertices; edges = graph .edges ++ (edgeOf graph (e .from) (e .to) (e .marked) a c ∷ []) })
+      plus-edge = plus e w l a c
+
+  module _ (from to : Bytes) (marked : Bool) (a c : Bytes) where
+    pub edge-many : 128 ≤ g .edges → faultyOf g TooMany ≡ addedOf text g (addEdge graph from to marked a c)
+    unfolding addedOf addEdge
+    edge-many l = rw (← edges-are, le-leb 128 (g .edges) l)
+
+    module _ (few : g .edges < 128) {f : Found} (hf : f ≡ lookUp from (held text (take (g .vertices) (g .points)))) where
+      pub edge-from : f .known ≡ false → faultyOf g UnknownVertex ≡ addedOf text g (addEdge graph from to marked a c)
+      unfolding addedOf addEdge
+      edge-from k = rw (← edges-are, lt-leb 128 (g .edges) few, point-found from refl hf, k)
+
+      module _ (ok : f .known ≡ true) {t : Found} (ht : t ≡ lookUp to (held text (take (g .vertices) (g .points)))) where
+        pub edge-to : t .known ≡ false → faultyOf g UnknownVertex ≡ addedOf text g (addEdge graph from to marked a c)
+        unfolding addedOf addEdge
+        edge-to k = rw (← edges-are, lt-leb 128 (g .edges) few, point-found from refl hf, ok, point-found to refl ht, k)
+
+        pub edge-known : t .known ≡ true → judgeEdge graph (f .place) (t .place) marked a c ≡ addEdge graph from to marked a c
+        unfolding addEdge
+        edge-known k = rw (← edges-are, lt-leb 128 (g .edges) few, point-found from refl hf, ok, point-found to refl ht, k)

@@ -1,0 +1,13 @@
+-- The laws that belong to no one function. Crates above cite HeldLaws and AnswerLaws.
+pub mod PieceLaws
+pub mod NameLaws
+pub mod RecordLaws
+pub mod WordLaws
+pub mod EdgeLaws
+pub mod FieldLaws
+pub mod ArrayLaws
+pub mod LineLaws
+pub mod HeldLaws
+pub mod TextLaws
+pub mod AnswerLaws
+mod Examples

@@ -1,0 +1,138 @@
+-- Laws of a line's record, for the code that goes by places. Assumes nothing.
+use Prim.Native.Nat.{ℕ, suc, _+_, _≤_}
+use mathlib.Core.Path.{_≡_, refl, ap, _∙_}
+use mathlib.Core.Bool.{true, false}
+use mathlib.Core.List.{List, [], _∷_}
+use native.Mathlib.Omega.{arith}
+use lib.ListN.{length, drop}
+use Rattle.formula.specs.Classes.{isName}
+use Rattle.assertion.specs.Graph.{Bytes}
+use Rattle.graph.specs.Pieces.{split, endAt, pieceAt, same}
+use Rattle.graph.specs.Records.{shapeless, named, marked, edged, ofFields, recordOf}
+use Rattle.graph.specs.Held.{fieldStart}
+use Rattle.graph.specs.Steps.{viewed}
+use Rattle.graph.specs.declared.Shape.the-variants.{Wrong, Signal, Constant, Vertex, Edge}
+use Rattle.graph.proofs.PieceLaws.{split-cut, split-last, split-end, split-some}
+
+module _ (line : Bytes) (at : ℕ) {kind field : Bytes} (hk : kind ≡ pieceAt 9 line 0) (hf : field ≡ drop at line) where
+  pub named-not : isName field ≡ false → viewed line Wrong ≡ named (pieceAt 9 line 0) (drop at line)
+  unfolding viewed named
+  named-not e = rw (← hf, e)
+
+  module _ (e : isName field ≡ true) where
+    pub named-signal : same kind (83 ∷ []) ≡ true → viewed line (Signal at) ≡ named (pieceAt 9 line 0) (drop at line)
+    unfolding viewed named
+    named-signal s = rw (← hk, ← hf, e, s)
+
+    pub named-constant : same kind (83 ∷ []) ≡ false → same kind (75 ∷ []) ≡ true → viewed line (Constant at) ≡ named (pieceAt 9 line 0) (drop at line)
+    unfolding viewed named
+    named-constant s k = rw (← hk, ← hf, e, s, k)
+
+    pub named-vertex : same kind (83 ∷ []) ≡ false → same kind (75 ∷ []) ≡ false → same kind (86 ∷ []) ≡ true → viewed line (Vertex at) ≡ named (pieceAt 9 line 0) (drop at line)
+    unfolding viewed named
+    named-vertex s k v = rw (← hk, ← hf, e, s, k, v)
+
+    pub named-none : same kind (83 ∷ []) ≡ false → same kind (75 ∷ []) ≡ false → same kind (86 ∷ []) ≡ false → viewed line Wrong ≡ named (pieceAt 9 line 0) (drop at line)
+    unfolding viewed named
+    named-none s k v = rw (← hk, ← hf, e, s, k, v)
+
+module _ (line : Bytes) (f t m a c : ℕ) {mark : Bytes} (hm : mark ≡ pieceAt 9 line m) where
+  pub marked-terminal : same mark (116 ∷ []) ≡ true → viewed line (Edge f t true a c) ≡ marked (pieceAt 9 line f) (pieceAt 9 line t) (pieceAt 9 line m) (pieceAt 9 line a) (pieceAt 9 line c)
+  unfolding viewed marked
+  marked-terminal s = rw (← hm, s)
+
+  pub marked-other : same mark (116 ∷ []) ≡ false → same mark (45 ∷ []) ≡ true → viewed line (Edge f t false a c) ≡ marked (pieceAt 9 line f) (pieceAt 9 line t) (pieceAt 9 line m) (pieceAt 9 line a) (pieceAt 9 line c)
+  unfolding viewed marked
+  marked-other s u = rw (← hm, s, u)
+
+  pub marked-not : same mark (116 ∷ []) ≡ false → same mark (45 ∷ []) ≡ false → viewed line Wrong ≡ marked (pieceAt 9 line f) (pieceAt 9 line t) (pieceAt 9 line m) (pieceAt 9 line a) (pieceAt 9 line c)
+  unfolding viewed marked
+  marked-not s u = rw (← hm, s, u)
+
+module _ (line f t m a c : Bytes) {kind : Bytes} (hk : kind ≡ pieceAt 9 line 0) where
+  pub edged-kind : same kind (69 ∷ []) ≡ false → viewed line Wrong ≡ edged (pieceAt 9 line 0) f t m a c
+  unfolding viewed edged
+  edged-kind s = rw (← hk, s)
+
+  module _ (s : same kind (69 ∷ []) ≡ true) {from : Bytes} (hf : from ≡ f) where
+    pub edged-from : isName from ≡ false → viewed line Wrong ≡ edged (pieceAt 9 line 0) f t m a c
+    unfolding viewed edged
+    edged-from n = rw (← hk, s, ← hf, n)
+
+    module _ (n : isName from ≡ true) {to : Bytes} (ht : to ≡ t) where
+      pub edged-to : isName to ≡ false → viewed line Wrong ≡ edged (pieceAt 9 line 0) f t m a c
+      unfolding viewed edged
+      edged-to u = rw (← hk, s, ← hf, n, ← ht, u)
+
+      pub edged-all : isName to ≡ true → marked f t m a c ≡ edged (pieceAt 9 line 0) f t m a c
+      unfolding edged
+      edged-all u = rw (← hk, s, ← hf, n, ← ht, u)
+
+-- seven fields or more
+more : (k f t m a c : Bytes) (l : List Bytes) → (l ≡ [] → ⊥) → shapeless ≡ ofFields (k ∷ f ∷ t ∷ m ∷ a ∷ c ∷ l)
+unfolding ofFields
+more k f t m a c [] h = absurd (h refl)
+more k f t m a c (x ∷ xs) h = refl
+
+-- the start of field 1, and of the field after one
+pub field-one : (line : Bytes) {e : ℕ} → e ≡ endAt 9 line 0 → e + 1 ≡ fieldStart line 1
+unfolding fieldStart
+field-one line n = rw n
+
+pub field-next : (line : Bytes) (k : ℕ) {p e : ℕ} → p ≡ fieldStart line k → e ≡ endAt 9 line p → e + 1 ≡ fieldStart line (suc k)
+unfolding fieldStart
+field-next line k h n = rw (n, h)
+
+-- where a field ends, as the code finds it
+abbrev pub Cut : Bytes → ℕ → ℕ → Type 0
+Cut line p e = (e ≡ endAt 9 line p) × (p ≤ e) × (e ≤ length line)
+
+module _ (line : Bytes) {e0 : ℕ} (h0 : Cut line 0 e0) where
+  pub fields-1 : e0 ≡ length line → viewed line Wrong ≡ recordOf line
+  unfolding viewed recordOf ofFields
+  fields-1 z = rw (split-last 9 line 0 e0 (h0 .0) (omega arith))
+
+  module _ (n0 : e0 ≡ length line → ⊥) {e1 : ℕ} (h1 : Cut line (e0 + 1) e1) where
+    cut0 : split 9 line ≡ pieceAt 9 line 0 ∷ split 9 (drop (e0 + 1) line)
+    cut0 = split-cut 9 line 0 e0 (h0 .0) (omega arith)
+
+    pub fields-2 : e1 ≡ length line → recordOf line ≡ named (pieceAt 9 line 0) (drop (e0 + 1) line)
+    unfolding recordOf ofFields
+    fields-2 z = rw (cut0, split-last 9 line (e0 + 1) e1 (h1 .0) (omega arith))
+
+    module _ (n1 : e1 ≡ length line → ⊥) {e2 : ℕ} (h2 : Cut line (e1 + 1) e2) where
+      cut1 : split 9 line ≡ pieceAt 9 line 0 ∷ pieceAt 9 line (e0 + 1) ∷ split 9 (drop (e1 + 1) line)
+      cut1 = cut0 ∙ ap (λ (l : List Bytes). pieceAt 9 line 0 ∷ l) (split-cut 9 line (e0 + 1) e1 (h1 .0) (omega arith))
+
+      pub fields-3 : e2 ≡ length line → viewed line Wrong ≡ recordOf line
+      unfolding viewed recordOf ofFields
+      fields-3 z = rw (cut1, split-last 9 line (e1 + 1) e2 (h2 .0) (omega arith))
+
+      module _ (n2 : e2 ≡ length line → ⊥) {e3 : ℕ} (h3 : Cut line (e2 + 1) e3) where
+        cut2 : split 9 line ≡ pieceAt 9 line 0 ∷ pieceAt 9 line (e0 + 1) ∷ pieceAt 9 line (e1 + 1) ∷ split 9 (drop (e2 + 1) line)
+        cut2 = cut1 ∙ ap (λ (l : List Bytes). pieceAt 9 line 0 ∷ pieceAt 9 line (e0 + 1) ∷ l) (split-cut 9 line (e1 + 1) e2 (h2 .0) (omega arith))
+
+        pub fields-4 : e3 ≡ length line → viewed line Wrong ≡ recordOf line
+        unfolding viewed recordOf ofFields
+        fields-4 z = rw (cut2, split-last 9 line (e2 + 1) e3 (h3 .0) (omega arith))
+
+        module _ (n3 : e3 ≡ length line → ⊥) {e4 : ℕ} (h4 : Cut line (e3 + 1) e4) where
+          cut3 : split 9 line ≡ pieceAt 9 line 0 ∷ pieceAt 9 line (e0 + 1) ∷ pieceAt 9 line (e1 + 1) ∷ pieceAt 9 line (e2 + 1) ∷ split 9 (drop (e3 + 1) line)
+          cut3 = cut2 ∙ ap (λ (l : List Bytes). pieceAt 9 line 0 ∷ pieceAt 9 line (e0 + 1) ∷ pieceAt 9 line (e1 + 1) ∷ l) (split-cut 9 line (e2 + 1) e3 (h3 .0) (omega arith))
+
+          pub fields-5 : e4 ≡ length line → viewed line Wrong ≡ recordOf line
+          unfolding viewed recordOf ofFields
+          fields-5 z = rw (cut3, split-last 9 line (e3 + 1) e4 (h4 .0) (omega arith))
+
+          module _ (n4 : e4 ≡ length line → ⊥) {e5 : ℕ} (h5 : Cut line (e4 + 1) e5) where
+            cut4 : split 9 line ≡ pieceAt 9 line 0 ∷ pieceAt 9 line (e0 + 1) ∷ pieceAt 9 line (e1 + 1) ∷ pieceAt 9 line (e2 + 1) ∷ pieceAt 9 line (e3 + 1) ∷ split 9 (drop (e4 + 1) line)
+            cut4 = cut3 ∙ ap (λ (l : List Bytes). pieceAt 9 line 0 ∷ pieceAt 9 line (e0 + 1) ∷ pieceAt 9 line (e1 + 1) ∷ pieceAt 9 line (e2 + 1) ∷ l) (split-cut 9 line (e3 + 1) e4 (h4 .0) (omega arith))
+
+            pub fields-6 : e5 ≡ length line → recordOf line ≡ edged (pieceAt 9 line 0) (pieceAt 9 line (e0 + 1)) (pieceAt 9 line (e1 + 1)) (pieceAt 9 line (e2 + 1)) (pieceAt 9 line (e3 + 1)) (pieceAt 9 line (e4 + 1))
+            unfolding recordOf ofFields
+            fields-6 z = rw (cut4, split-end 9 line (e4 + 1) e5 (h5 .0) (omega arith))
+
+            pub fields-7 : (e5 ≡ length line → ⊥) → viewed line Wrong ≡ recordOf line
+            unfolding viewed recordOf ofFields
+            fields-7 n5 =
+                rw (cut4, split-cut 9 line (e4 + 1) e5 (h5 .0) (omega arith)) (more _ _ _ _ _ _ (split 9 (drop (e5 + 1) line)) (split-some 9 (drop (e5 + 1) line)))

@@ -1,0 +1,39 @@
+-- `graph::edges::judge_both` meets its contract. Assumes nothing.
+use borrow.Author.Needs.{needs}
+use Rattle.graph.proofs.edges.judge_both.Statement.{statement}
+use Rattle.graph.proofs.edges.judge_both.Tie as tie
+
+add-total : tie.Need-add-total
+add-total c = search needs
+
+part-requires : tie.Need-part-requires
+part-requires c κs = search needs
+
+judge-requires : tie.Need-judge-requires
+judge-requires c κs = search needs
+
+part-requires-2 : tie.Need-part-requires-2
+part-requires-2 c κs = search needs
+
+judge-requires-2 : tie.Need-judge-requires-2
+judge-requires-2 c κs = search needs
+
+lower-of-requires : tie.Need-lower-of-requires
+lower-of-requires c κs = search needs
+
+returns : tie.Need-returns
+returns c =
+    let j = c .before .before .before .before .before .before in
+    rw (← j .before .part .ensures, ← c .before .before .part2 .ensures, ← j .judge .ensures, ← c .before .judge2 .ensures) (c .lower-of .ensures)
+
+pub judge-both-spec : {M : Type 1} → statement M
+judge-both-spec =
+    tie.close
+    (tie.spec
+    add-total
+    part-requires
+    judge-requires
+    part-requires-2
+    judge-requires-2
+    lower-of-requires
+    returns)

@@ -1,0 +1,89 @@
+-- What reading a graph text answers: the checked graph by places in the text. Record k of the text, from
+-- 0, is its line k + 1, and signals, constants, vertices and edges follow one another, so each array is
+-- given by the lines of its records. Assumes nothing.
+use Prim.Native.Nat.{ℕ, zero, suc, _+_, _-_}
+use mathlib.Core.Bool.{false}
+use mathlib.Core.List.{List, [], _∷_, _++_}
+use lib.ListN.{length, drop, replicate}
+use Rattle.assertion.specs.Graph.{Bytes, Edge, Graph}
+use Rattle.graph.specs.Pieces.{upTo, endAt, pieceAt}
+use Rattle.graph.specs.Reading.{Outcome, refused, accepted, nothing, graphOf}
+use Rattle.graph.specs.declared.Arc.{Arc}
+use Rattle.graph.specs.declared.CheckedGraph.{CheckedGraph}
+use Rattle.graph.specs.declared.ReadOutcome.the-variants.{Checked, Refused}
+use Rattle.graph.specs.declared.GraphRead.{GraphRead}
+
+-- ---- places
+-- where line n of a text starts, n from 0, and its bytes
+unfoldable pub lineStart : Bytes → ℕ → ℕ
+lineStart text zero = 0
+lineStart text (suc n) = endAt 10 text (lineStart text n) + 1
+
+unfoldable pub lineOf : Bytes → ℕ → Bytes
+lineOf text n = pieceAt 10 text (lineStart text n)
+
+-- where field k of a line starts, k from 0, and how many bytes it has
+unfoldable pub fieldStart : Bytes → ℕ → ℕ
+fieldStart line zero = 0
+fieldStart line (suc k) = endAt 9 line (fieldStart line k) + 1
+
+unfoldable pub fieldLength : Bytes → ℕ → ℕ
+fieldLength line k = upTo 9 (drop (fieldStart line k) line)
+
+-- where field k of line n stands in the text
+unfoldable pub fieldAt : Bytes → ℕ → ℕ → ℕ
+fieldAt text n k = lineStart text n + fieldStart (lineOf text n) k
+
+-- ---- the arrays
+-- the places of the names in count lines from line n on: a name is field 1
+unfoldable pub namePlaces : Bytes → ℕ → ℕ → List ℕ
+namePlaces text n zero = []
+namePlaces text n (suc count) = fieldAt text n 1 ∷ namePlaces text (n + 1) count
+
+-- an edge with the places and lengths of its formulas, which are fields 4 and 5 of line n
+unfoldable pub arcOf : Bytes → ℕ → Edge → Arc
+arcOf text n e =
+    record {
+      from = e .from;
+      to = e .to;
+      marked = e .marked;
+      left = fieldAt text n 4;
+      lefts = fieldLength (lineOf text n) 4;
+      right = fieldAt text n 5;
+      rights = fieldLength (lineOf text n) 5;
+    }
+
+-- edges whose first is line n
+unfoldable pub arcsOf : Bytes → ℕ → List Edge → List Arc
+arcsOf text n [] = []
+arcsOf text n (e ∷ es) = arcOf text n e ∷ arcsOf text (n + 1) es
+
+-- an element of an array that no edge fills
+abbrev pub noArc : Arc
+noArc = record { from = 0; to = 0; marked = false; left = 0; lefts = 0; right = 0; rights = 0 }
+
+-- an array of n elements, of which the first are given
+unfoldable pub filled : {A : Type 0} → ℕ → A → List A → List A
+filled n d xs = xs ++ replicate (n - length xs) d
+
+-- the graph g of a text, by places
+unfoldable pub heldOf : Bytes → Graph → CheckedGraph
+heldOf text g =
+    let named = length (g .signals) + length (g .constants) in
+    record {
+      signals = length (g .signals);
+      constants = length (g .constants);
+      vertices = length (g .vertices);
+      edges = length (g .edges);
+      names = filled 69 0 (namePlaces text 0 named);
+      points = filled 64 0 (namePlaces text named (length (g .vertices)));
+      arcs = filled 128 noArc (arcsOf text (named + length (g .vertices)) (g .edges));
+    }
+
+-- ---- the answer: a refused text has the graph of no line
+unfoldable pub answerOf : Bytes → Outcome → GraphRead
+answerOf text (accepted g) = record { outcome = Checked; graph = heldOf text g }
+answerOf text (refused cause) = record { outcome = Refused cause; graph = heldOf text nothing }
+
+unfoldable pub readOf : Bytes → GraphRead
+readOf text = answerOf text (graphOf text)

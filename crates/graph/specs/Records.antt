@@ -1,0 +1,40 @@
+-- The record of a line: its kind and its fields, parted by one tab each. Assumes nothing.
+use mathlib.Core.Bool.{Bool, true, false}
+use mathlib.Core.List.{List, [], _∷_}
+use Rattle.formula.specs.Classes.{pick, isName}
+use Rattle.assertion.specs.Graph.{Bytes}
+use Rattle.graph.specs.Pieces.{split, same}
+
+pub data Record : Type 0 where
+  shapeless : Record
+  signal constant vertex : Bytes → Record
+  edge : (from to : Bytes) (marked : Bool) (antecedent consequent : Bytes) → Record
+
+-- `S`, `K` or `V`, and a name
+unfoldable pub named : Bytes → Bytes → Record
+named k n =
+    pick (isName n)
+    (pick (same k (83 ∷ [])) (signal n) (pick (same k (75 ∷ [])) (constant n) (pick (same k (86 ∷ [])) (vertex n) shapeless)))
+    shapeless
+
+-- the mark: `t` is terminal, `-` is not
+unfoldable pub marked : Bytes → Bytes → Bytes → Bytes → Bytes → Record
+marked f t m a c = pick (same m (116 ∷ [])) (edge f t true a c) (pick (same m (45 ∷ [])) (edge f t false a c) shapeless)
+
+-- `E`, the names of two vertices, a mark, and two formulas, which are judged later
+unfoldable pub edged : Bytes → Bytes → Bytes → Bytes → Bytes → Bytes → Record
+edged k f t m a c = pick (same k (69 ∷ [])) (pick (isName f) (pick (isName t) (marked f t m a c) shapeless) shapeless) shapeless
+
+-- two fields or six
+unfoldable pub ofFields : List Bytes → Record
+ofFields [] = shapeless
+ofFields (k ∷ []) = shapeless
+ofFields (k ∷ n ∷ []) = named k n
+ofFields (k ∷ f ∷ t ∷ []) = shapeless
+ofFields (k ∷ f ∷ t ∷ m ∷ []) = shapeless
+ofFields (k ∷ f ∷ t ∷ m ∷ a ∷ []) = shapeless
+ofFields (k ∷ f ∷ t ∷ m ∷ a ∷ c ∷ []) = edged k f t m a c
+ofFields (k ∷ f ∷ t ∷ m ∷ a ∷ c ∷ x ∷ xs) = shapeless
+
+unfoldable pub recordOf : Bytes → Record
+recordOf line = ofFields (split 9 line)

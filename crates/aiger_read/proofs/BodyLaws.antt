@@ -1,0 +1,101 @@
+-- The lines after the header are read just where each kind of line is, in order. Assumes nothing.
+use mathlib.Core.Path.{_≡_, refl, ap, _∙_}
+use mathlib.Core.Bool.{Bool, true, false, cond}
+use mathlib.Core.List.{List, [], _++_, append-nil}
+use Prim.Native.Nat.{ℕ, _+_}
+use borrow.Author.Tests.{eqb-true, eq-eqb}
+use lib.Dec.{eqb}
+use lib.ListN.{length}
+use Rattle.netlist.specs.Literals.{literalOf}
+use Rattle.aiger_read.specs.declared.Fault.the-variants.{WrongShape}
+use Rattle.aiger_read.specs.Lines.{Row, inputAt, latchAt, outputAt, gateAt}
+use Rattle.aiger_read.specs.Files.{rows, failed, behind, andThen, rowsOf, endOf, bodyOf}
+use Rattle.aiger_read.proofs.RunLaws.{Run, run-of, then-rows, failed-rows}
+
+abbrev pub inputRows : List ℕ → ℕ → ℕ → ℕ → Row
+inputRows s k = inputAt s (literalOf (1 + k) false)
+
+abbrev pub latchRows : List ℕ → ℕ → ℕ → ℕ → ℕ → ℕ → Row
+latchRows s m i k = latchAt s (literalOf m true) (literalOf (i + 1 + k) false)
+
+abbrev pub outputRows : List ℕ → ℕ → ℕ → ℕ → ℕ → Row
+outputRows s m k = outputAt s (literalOf m true)
+
+abbrev pub gateRows : List ℕ → ℕ → ℕ → ℕ → ℕ → ℕ → Row
+gateRows s i l k = gateAt s (literalOf (i + l + 1 + k) false)
+
+-- the four kinds of lines, from p to the end of the text
+pub record Body (s : List ℕ) (m i l o a p : ℕ) (ns : List ℕ) : Type 0 where
+  pub n1 : List ℕ
+  pub n2 : List ℕ
+  pub n3 : List ℕ
+  pub n4 : List ℕ
+  pub f1 : ℕ
+  pub f2 : ℕ
+  pub f3 : ℕ
+  pub f4 : ℕ
+  pub p1 : ℕ
+  pub p2 : ℕ
+  pub p3 : ℕ
+  pub p4 : ℕ
+  pub inputs : Run (inputRows s) i 0 0 p n1 f1 p1
+  pub latches : Run (latchRows s m i) l 0 f1 p1 n2 f2 p2
+  pub outputs : Run (outputRows s m) o 0 f2 p2 n3 f3 p3
+  pub gates : Run (gateRows s i l) a 0 f3 p3 n4 f4 p4
+  pub end : p4 ≡ length s
+  pub numbers : ns ≡ n1 ++ (n2 ++ (n3 ++ n4))
+
+cond-end : (s : List ℕ) (line f p : ℕ) (t : Bool) → eqb p (length s) ≡ t → (ks : List ℕ) (g q : ℕ) → cond t (rows [] f p) (failed WrongShape line) ≡ rows ks g q → (p ≡ length s) × (ks ≡ [])
+cond-end s line f p true e ks g q h = (eqb-true p (length s) e, cc)
+cond-end s line f p false e ks g q h = absurd (failed-rows h)
+
+end-rows : (s : List ℕ) (line f p : ℕ) (ks : List ℕ) (g q : ℕ) → endOf s line f p ≡ rows ks g q → (p ≡ length s) × (ks ≡ [])
+unfolding endOf
+end-rows s line f p ks g q h = cond-end s line f p (eqb p (length s)) refl ks g q h
+
+pub body-read : (s : List ℕ) (m i l o a p : ℕ) (ns : List ℕ) (f q : ℕ) → bodyOf s m i l o a p ≡ rows ns f q → Body s m i l o a p ns
+unfolding bodyOf
+body-read s m i l o a p ns f q h =
+    then-rows _ _ _ ns f q h
+    (λ n1 f1 p1 k1 e1 h1 s1.
+    then-rows _ _ _ k1 f q h1
+    (λ n2 f2 p2 k2 e2 h2 s2.
+    then-rows _ _ _ k2 f q h2
+    (λ n3 f3 p3 k3 e3 h3 s3.
+    then-rows _ _ _ k3 f q h3
+    (λ n4 f4 p4 k4 e4 h4 s4.
+    let e = end-rows s _ f4 p4 k4 f q h4 in
+    record {
+      n1 = n1;
+      n2 = n2;
+      n3 = n3;
+      n4 = n4;
+      f1 = f1;
+      f2 = f2;
+      f3 = f3;
+      f4 = f4;
+      p1 = p1;
+      p2 = p2;
+      p3 = p3;
+      p4 = p4;
+      inputs = run-of (inputRows s) i 0 2 0 p n1 f1 p1 e1;
+      latches = run-of (latchRows s m i) l 0 (i + 2) f1 p1 n2 f2 p2 e2;
+      outputs = run-of (outputRows s m) o 0 (i + l + 2) f2 p2 n3 f3 p3 e3;
+      gates = run-of (gateRows s i l) a 0 (i + l + o + 2) f3 p3 n4 f4 p4 e4;
+      end = e .0;
+      numbers =
+          s1
+          ∙ ap (λ (x : List ℕ). n1 ++ x)
+          (s2 ∙ ap (λ (x : List ℕ). n2 ++ x) (s3 ∙ ap (λ (x : List ℕ). n3 ++ x) (s4 ∙ ap (λ (x : List ℕ). n4 ++ x) (e .1) ∙ append-nil n4)));
+    }))))
+
+-- and back: the lines, one kind after the other, to the end of the text
+pub body-made : (s : List ℕ) (m i l o a : ℕ) (n1 n2 n3 n4 : List ℕ) (p f1 p1 f2 p2 f3 p3 f4 p4 : ℕ)
+    → rowsOf (inputRows s) i 0 2 0 p ≡ rows n1 f1 p1
+    → rowsOf (latchRows s m i) l 0 (i + 2) f1 p1 ≡ rows n2 f2 p2
+    → rowsOf (outputRows s m) o 0 (i + l + 2) f2 p2 ≡ rows n3 f3 p3
+    → rowsOf (gateRows s i l) a 0 (i + l + o + 2) f3 p3 ≡ rows n4 f4 p4
+    → p4 ≡ length s → bodyOf s m i l o a p ≡ rows (n1 ++ (n2 ++ (n3 ++ n4))) f4 p4
+unfolding bodyOf andThen behind endOf
+body-made s m i l o a n1 n2 n3 n4 p f1 p1 f2 p2 f3 p3 f4 p4 e1 e2 e3 e4 h =
+    rw (e1, e2, e3, e4, eq-eqb p4 (length s) h, append-nil n4)

@@ -1,0 +1,151 @@
+-- Every file of a netlist is taken, and gives the netlist's numbers. Assumes nothing.
+use mathlib.Core.Path.{_≡_, refl, sym, ap, ap₂, _∙_}
+use mathlib.Core.Bool.{Bool, true, false, cond, not, _&&_, _||_}
+use mathlib.Core.List.{List, [], _∷_, _++_}
+use mathlib.Core.Logic.{_⊎_, inl, inr}
+use Prim.Native.Nat.{ℕ, suc, _+_, _*_, _≤_, _<_}
+use native.Mathlib.Nat.{zero-add, add-zero}
+use native.Mathlib.Omega.{arith}
+use borrow.Author.Tests.{le-leb, eq-eqb, lt-ltb}
+use lib.Dec.{eqb, leb, ltb}
+use lib.ListN.{length, getD}
+use Rattle.text.specs.Writer.{joined}
+use Rattle.netlist.specs.Layout.{maximum, inputCount, latchCount, outputCount, gateCount, nextAt, resetAt, outputAt, operandsAt, sizeOf, latchVariable, gateVariable}
+use Rattle.netlist.specs.Literals.{literalOf, variableOf}
+use Rattle.netlist.specs.Valid.{headerOk, isFree, freeCount, isNetlist}
+use Rattle.netlist.proofs.LiteralLaws.{literal-plain, literal-inverted}
+use Rattle.netlist.proofs.ValidLaws.{Valid, valid, free-below}
+use Rattle.aiger.specs.Rows.{line, headerRow}
+use Rattle.aiger.specs.Format.{inputLine, latchLine, outputLine, gateLine, fileWith}
+use Rattle.aiger_read.specs.Fields.{fields, fieldsOf}
+use Rattle.aiger_read.specs.Lines.{Row, row}
+use Rattle.aiger_read.specs.Files.{rows, behind, rowsOf, hasTag, headed, fileRead}
+use Rattle.aiger_read.specs.Claims.{IsFile}
+use Rattle.aiger_read.proofs.LimitLaws.{header-sum}
+use Rattle.aiger_read.proofs.PlaceLaws.{At, at-split, at-whole, at-parts}
+use Rattle.aiger_read.proofs.FieldLaws.{Small, stand-fields}
+use Rattle.aiger_read.proofs.TextLaws.{input-complete, output-complete, latch-complete, gate-complete}
+use Rattle.aiger_read.proofs.RunLaws.{of-run}
+use Rattle.aiger_read.proofs.LayoutLaws.{pairAt, oneAt, made}
+use Rattle.aiger_read.proofs.BodyLaws.{inputRows, latchRows, outputRows, gateRows, body-made}
+use Rattle.aiger_read.proofs.SoundLaws.{counted}
+use Rattle.aiger_read.proofs.FileLaws.{tag, joined-none}
+
+-- lines are read where their texts stand one after the other
+complete-run : (s : List ℕ) (at : ℕ → ℕ → ℕ → Row) (T N : ℕ → List ℕ) (F : ℕ → ℕ) (n line p q : ℕ) → At s p (joined T n) q
+    → ((k x y : ℕ) → k < n → At s x (T k) y → at k (F k) x ≡ row (N k) (F (suc k)) y) → rowsOf at n 0 line (F 0) p ≡ rows (joined N n) (F n) q
+complete-run s at T N F n line p q a step =
+    let r = of-run at F (λ k. p + length (joined T k)) N n 0 line (λ k h. rw zero-add (step k (p + length (joined T k)) (p + length (joined T (suc k))) h (at-parts T n p q a k h))) in
+    let z : p + length (joined T 0) ≡ p = add-zero p in
+    rw (z, ← (a .place)) at r
+
+module _ (s net : List ℕ) (explicit : ℕ → Bool) (is : isNetlist net ≡ true) where
+  abbrev v : Valid net
+  v = valid net is
+
+  own-small : (n : ℕ) → n ≤ 4096 → literalOf n false < 100000
+  own-small n h = omega (arith, literal-plain n)
+
+  -- ---- the runs
+  inputs-run : (p q line : ℕ) → At s p (joined inputLine (inputCount net)) q → rowsOf (inputRows s) (inputCount net) 0 line 0 p ≡ rows [] 0 q
+  unfolding inputLine
+  inputs-run p q line a =
+      let r = complete-run s (inputRows s) inputLine (λ _. []) (λ _. 0) (inputCount net) line p q a (λ k x y h b. input-complete s 0 x y (literalOf (1 + k) false) (own-small (1 + k) (omega (arith, v .few))) b) in
+      rw (joined-none (λ _. []) (inputCount net) (λ k h. refl)) at r
+
+  within : (lit : ℕ) → variableOf lit ≤ maximum net → (lit ≤ literalOf (maximum net) true) × (lit < 100000)
+  unfolding variableOf
+  within lit h = (omega (arith, literal-inverted (maximum net)), omega (arith, v .small))
+
+  reset-fits : (k : ℕ) → k < latchCount net → (leb (getD net (resetAt k) 0) 1 || (eqb (getD net (resetAt k) 0) (literalOf (latchVariable net k) false) && ltb (freeCount net k) 6)) ≡ true
+  unfolding isFree
+  reset-fits k h = go (leb (getD net (resetAt k) 0) 1) refl (v .resets k h)
+    where
+      go : (t : Bool) → leb (getD net (resetAt k) 0) 1 ≡ t → (getD net (resetAt k) 0 ≤ 1) ⊎ (getD net (resetAt k) 0 ≡ literalOf (latchVariable net k) false)
+          → (t || (eqb (getD net (resetAt k) 0) (literalOf (latchVariable net k) false) && ltb (freeCount net k) 6)) ≡ true
+      go true e w = refl
+      go false e (inl w) = absurd (let z : true ≡ false = sym (le-leb (getD net (resetAt k) 0) 1 w) ∙ e in let y : _≡_ {A = ℕ} 0 1 = cc in omega arith)
+      go false e (inr w) = ap₂ _&&_ (eq-eqb (getD net (resetAt k) 0) (literalOf (latchVariable net k) false) w) (lt-ltb (freeCount net k) 6 (free-below net is k h (ap not e)))
+
+  reset-small : (k : ℕ) → k < latchCount net → getD net (resetAt k) 0 < 100000
+  reset-small k h = go (v .resets k h)
+    where
+      go : (getD net (resetAt k) 0 ≤ 1) ⊎ (getD net (resetAt k) 0 ≡ literalOf (latchVariable net k) false) → getD net (resetAt k) 0 < 100000
+      go (inl w) = omega arith
+      go (inr w) = omega (arith, own-small (latchVariable net k) (omega (arith, v .sum, v .small)))
+
+  free-next : (k : ℕ) → freeCount net k + cond (leb (getD net (resetAt k) 0) 1) 0 1 ≡ freeCount net (suc k)
+  unfolding freeCount isFree
+  free-next k = ap (λ (x : ℕ). freeCount net k + x) (counted (leb (getD net (resetAt k) 0) 1))
+
+  latches-run : (p q line : ℕ) → At s p (joined (latchLine net explicit) (latchCount net)) q
+      → rowsOf (latchRows s (maximum net) (inputCount net)) (latchCount net) 0 line 0 p ≡ rows (joined (λ k. pairAt net (5 + 2 * k)) (latchCount net)) (freeCount net (latchCount net)) q
+  unfolding latchLine freeCount
+  latches-run p q line a =
+      complete-run s (latchRows s (maximum net) (inputCount net)) (latchLine net explicit) (λ k. pairAt net (5 + 2 * k)) (freeCount net) (latchCount net) line p q a
+      (λ k x y h b.
+      let w = within (getD net (nextAt k) 0) (v .nexts k h) in
+      latch-complete s (freeCount net k) x y (explicit k) (literalOf (maximum net) true) (literalOf (latchVariable net k) false) (getD net (nextAt k) 0) (getD net (resetAt k) 0)
+      (own-small (latchVariable net k) (omega (arith, v .sum, v .small))) (w .1) (reset-small k h) (w .0) (reset-fits k h) b
+      ∙ ap (λ (f : ℕ). row (pairAt net (5 + 2 * k)) f y) (free-next k))
+
+  outputs-run : (f p q line : ℕ) → At s p (joined (outputLine net) (outputCount net)) q
+      → rowsOf (outputRows s (maximum net)) (outputCount net) 0 line f p ≡ rows (joined (λ k. oneAt net (5 + 2 * latchCount net + k)) (outputCount net)) f q
+  unfolding outputLine
+  outputs-run f p q line a =
+      complete-run s (outputRows s (maximum net)) (outputLine net) (λ k. oneAt net (5 + 2 * latchCount net + k)) (λ _. f) (outputCount net) line p q a
+      (λ k x y h b.
+      let w = within (getD net (outputAt net k) 0) (v .outputs k h) in
+      output-complete s f x y (literalOf (maximum net) true) (getD net (outputAt net k) 0) (w .0) (w .1) b)
+
+  gates-run : (f p q line : ℕ) → At s p (joined (gateLine net) (gateCount net)) q
+      → rowsOf (gateRows s (inputCount net) (latchCount net)) (gateCount net) 0 line f p ≡ rows (joined (λ k. pairAt net (5 + 2 * latchCount net + outputCount net + 2 * k)) (gateCount net)) f q
+  unfolding gateLine
+  gates-run f p q line a =
+      complete-run s (gateRows s (inputCount net) (latchCount net)) (gateLine net) (λ k. pairAt net (5 + 2 * latchCount net + outputCount net + 2 * k)) (λ _. f) (gateCount net) line p q a
+      (λ k x y h b.
+      gate-complete s f x y (literalOf (gateVariable net k) false) (getD net (operandsAt net k) 0) (getD net (operandsAt net k + 1) 0)
+      (own-small (gateVariable net k) (omega (arith, v .sum, v .small))) (v .below k h) (v .order k h) b)
+
+  -- ---- the header
+  ok : headerOk (maximum net) (inputCount net) (latchCount net) (outputCount net) (gateCount net) ≡ true
+  ok = header-sum (maximum net) (inputCount net) (latchCount net) (outputCount net) (gateCount net) (v .small) (v .some) (v .few) (v .single) ∙ eq-eqb _ _ (v .sum)
+
+  head-read : (q : ℕ) → At s 0 (headerRow (maximum net) (inputCount net) (latchCount net) (outputCount net) (gateCount net)) q
+      → fieldsOf s 4 4 ≡ fields (maximum net ∷ inputCount net ∷ latchCount net ∷ outputCount net ∷ gateCount net ∷ []) q
+  unfolding headerRow Small
+  head-read q a =
+      let parts = at-split tag (line (maximum net) (inputCount net ∷ latchCount net ∷ outputCount net ∷ gateCount net ∷ [])) a in
+      let b : At s 4 (line (maximum net) (inputCount net ∷ latchCount net ∷ outputCount net ∷ gateCount net ∷ [])) q = parts .1 in
+      let m : maximum net < 100000 = omega (arith, v .small) in
+      let i : inputCount net < 100000 = omega (arith, v .few) in
+      let l : latchCount net < 100000 = omega (arith, v .sum, v .small) in
+      let o : outputCount net < 100000 = omega (arith, v .single) in
+      let g : gateCount net < 100000 = omega (arith, v .sum, v .small) in
+      stand-fields s (inputCount net ∷ latchCount net ∷ outputCount net ∷ gateCount net ∷ []) (maximum net) 4 q (m, (i, (l, (o, (g, tt))))) b
+
+  tagged : s ≡ fileWith net explicit → hasTag s ≡ true
+  unfolding hasTag fileWith headerRow
+  tagged e = rw e
+
+  -- ---- the whole
+  file-read : s ≡ fileWith net explicit → length net ≡ sizeOf net → (free q : ℕ) × (fileRead s ≡ rows net free q)
+  unfolding fileRead headed behind fileWith
+  file-read e size =
+      let h = headerRow (maximum net) (inputCount net) (latchCount net) (outputCount net) (gateCount net) in
+      let t1 = joined inputLine (inputCount net) in
+      let t2 = joined (latchLine net explicit) (latchCount net) in
+      let t3 = joined (outputLine net) (outputCount net) in
+      let t4 = joined (gateLine net) (gateCount net) in
+      let a0 = at-split h (t1 ++ (t2 ++ (t3 ++ t4))) (at-whole (h ++ (t1 ++ (t2 ++ (t3 ++ t4)))) e) in
+      let a1 = at-split t1 (t2 ++ (t3 ++ t4)) (a0 .1) in
+      let a2 = at-split t2 (t3 ++ t4) (a1 .1) in
+      let a3 = at-split t3 t4 (a2 .1) in
+      let f = freeCount net (latchCount net) in
+      let b =
+      body-made s (maximum net) (inputCount net) (latchCount net) (outputCount net) (gateCount net) [] _ _ _ (0 + length h) 0 (0 + length h + length t1) f
+      (0 + length h + length t1 + length t2) f (0 + length h + length t1 + length t2 + length t3) f (length s) (inputs-run _ _ _ (a1 .0)) (latches-run _ _ _ (a2 .0)) (outputs-run f _ _ _ (a3 .0)) (gates-run f _ _ _ (a3 .1)) refl in
+      (f, length s, rw (tagged e, head-read (0 + length h) (a0 .0), ok, b) (ap (λ (x : List ℕ). rows x f (length s)) (sym (made net size))))
+
+pub complete : (text net : List ℕ) → IsFile text net → (free q : ℕ) × (fileRead text ≡ rows net free q)
+complete text net f = file-read text net (f .explicit) (f .netlist) (f .is) (f .exact)

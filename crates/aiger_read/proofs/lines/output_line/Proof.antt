@@ -1,0 +1,46 @@
+-- `output_line` meets its contract. Assumes nothing.
+use Rattle.aiger_read.specs.Steps.{numbersOf, rowIn}
+use Rattle.aiger_read.proofs.RowLaws.{output-wrong, output-bad, output-good}
+use borrow.Author.Needs.{needs}
+use Rattle.aiger_read.proofs.lines.output_line.Statement.{statement}
+use Rattle.aiger_read.proofs.lines.output_line.Tie as tie
+
+fields-at-requires : tie.Need-fields-at-requires
+fields-at-requires c κs = search needs
+
+returns : tie.Need-returns
+unfolding rowIn
+returns c = output-wrong _ _ _ _ (c .before .before .fields-at .ensures) _ (c .if1 .taken)
+
+array-read-if2 : tie.Need-array-read-if2
+array-read-if2 c = search needs
+
+returns-2 : tie.Need-returns-2
+unfolding rowIn
+returns-2 c =
+    let i = c .before .before in
+    output-bad _ _ _ _ (i .before .before .fields-at .ensures) _ (i .if1 .left) (c .if2 .taken)
+
+array-read-t11 : tie.Need-array-read-t11
+array-read-t11 c = search needs
+
+cast-t16 : tie.Need-cast-t16
+cast-t16 c = search needs
+
+returns-3 : tie.Need-returns-3
+unfolding rowIn numbersOf
+returns-3 c =
+    let i = c .before .before in
+    output-good _ _ _ _ (i .before .before .fields-at .ensures) _ (i .if1 .left) (c .if2 .left)
+
+pub output-line-spec : {M : Type 1} → statement M
+output-line-spec =
+    tie.close
+    (tie.spec
+    fields-at-requires
+    returns
+    array-read-if2
+    returns-2
+    array-read-t11
+    cast-t16
+    returns-3)

@@ -1,0 +1,193 @@
+// One pass over a file. A number past the buffer's end is dropped, so that a pass over no numbers tells
+// how many there are.
+use crate::Block;
+use crate::Cursor;
+use crate::Fault;
+use crate::Given;
+use crate::Head;
+use crate::HeadRead;
+use crate::Kind;
+use crate::LineRead;
+use crate::Passed;
+use crate::lines::header_at;
+use crate::lines::line_of;
+use netlist::Variable;
+ghost use mathlib.Core.Path.{_≡_};
+ghost use mathlib.Core.List.{[], _∷_};
+ghost use Prim.Native.Nat.{_+_, _*_, _<_, _≤_};
+ghost use lib.ListN.{length, set};
+ghost use lib.Seq.{sets};
+ghost use Rattle.aiger_read.specs.Files.{fileRead};
+ghost use Rattle.aiger_read.specs.Steps.{numbersIn, blockOf, inputsOf, latchesOf, outputsOf, gatesOf, Took, Within, Counted};
+
+// How many numbers the header gives.
+const HEADER: usize = 5;
+
+// A number into the buffer, where it has that place.
+fn store(net: &mut [u16], at: usize, v: u16)
+    ensures { λ _. ⌜ now (net .exit) ≡ set (now (net .entry)) at v ⌝ }
+{
+    if at < net.len() {
+        net[at] = v;
+    }
+}
+
+// Two numbers.
+fn store_pair(net: &mut [u16], at: usize, a: u16, b: u16)
+    requires { ⌜ at ≤ 200000 ⌝ }
+    ensures { λ _. ⌜ now (net .exit) ≡ sets (now (net .entry)) at (a ∷ b ∷ []) ⌝ }
+{
+    store(net, at, a);
+    store(net, at + 1, b);
+}
+
+// The numbers of a line; the place after them.
+fn store_given(net: &mut [u16], at: usize, given: Given) -> usize
+    requires { ⌜ at ≤ 200000 ⌝ }
+    ensures { λ r. ⌜ (now (net .exit) ≡ sets (now (net .entry)) at (numbersIn given)) × (r ≡ at + length (numbersIn given)) × (r ≤ at + 2) ⌝ }
+{
+    if given.count == 0 {
+        return at;
+    }
+    if given.count == 1 {
+        store(net, at, given.first);
+        return at + 1;
+    }
+    store_pair(net, at, given.first, given.second);
+    at + 2
+}
+
+// The numbers of the header.
+fn store_head(net: &mut [u16], head: Head)
+    ensures { λ _. ⌜ now (net .exit) ≡ sets (now (net .entry)) 0 (head .variables ∷ head .inputs ∷ head .latches ∷ head .outputs ∷ head .gates ∷ []) ⌝ }
+{
+    store_pair(net, 0, head.variables, head.inputs);
+    store_pair(net, 2, head.latches, head.outputs);
+    store(net, 4, head.gates);
+}
+
+// The lines of a block, whose numbers are stored from `from.place` on. `last` is the largest literal.
+fn block_at(s: &[u8], net: &mut [u16], last: u16, block: Block, from: Cursor) -> Passed
+    requires { ⌜ (block .count + block .first ≤ 32768) × (block .line ≤ 100000) × (from .place ≤ 50000) ⌝ }
+    ensures { λ r. ⌜ Took (blockOf (now (s .entry)) last block from) (now (net .entry)) (now (net .exit)) (from .place) r ⌝ }
+    ensures { λ r. ⌜ Within (from .place + 2 * block .count) r ⌝ }
+{
+    let kind = block.kind;
+    let count = block.count;
+    let mut free = from.free;
+    let mut at = from.at;
+    let mut place = from.place;
+    for k in 0..count {
+        let lit = Variable(block.first + k).literal(false);
+        match line_of(s, kind, last, lit.0, free, at) {
+            LineRead::Good(given) => {
+                place = store_given(net, place, given);
+                free = given.free;
+                at = given.next;
+            }
+            LineRead::Bad(fault) => {
+                return Passed::Failed(fault, block.line + k as u32);
+            }
+        }
+    }
+    Passed::Past(Cursor {
+        free: free,
+        at: at,
+        place: place,
+    })
+}
+
+// From the gates on. Nothing stands after them.
+fn gates_at(s: &[u8], net: &mut [u16], head: Head, from: Cursor) -> Passed
+    requires { ⌜ Counted head × (from .place ≤ 30000) ⌝ }
+    ensures { λ r. ⌜ Took (gatesOf (now (s .entry)) head (from .free) (from .at)) (now (net .entry)) (now (net .exit)) (from .place) r ⌝ }
+{
+    let line = head.inputs as u32 + head.latches as u32 + head.outputs as u32 + 2;
+    let gates = Block {
+        kind: Kind::Gate,
+        count: head.gates,
+        first: head.inputs + head.latches + 1,
+        line: line,
+    };
+    match block_at(s, net, 0, gates, from) {
+        Passed::Past(end) => {
+            if end.at == s.len() {
+                Passed::Past(end)
+            } else {
+                Passed::Failed(Fault::WrongShape, line + head.gates as u32)
+            }
+        }
+        Passed::Failed(fault, n) => Passed::Failed(fault, n),
+    }
+}
+
+// From the outputs on.
+fn outputs_at(s: &[u8], net: &mut [u16], head: Head, from: Cursor) -> Passed
+    requires { ⌜ Counted head × (from .place ≤ 20000) ⌝ }
+    ensures { λ r. ⌜ Took (outputsOf (now (s .entry)) head (from .free) (from .at)) (now (net .entry)) (now (net .exit)) (from .place) r ⌝ }
+{
+    let last = Variable(head.variables).literal(true);
+    let outputs = Block {
+        kind: Kind::Output,
+        count: head.outputs,
+        first: 0,
+        line: head.inputs as u32 + head.latches as u32 + 2,
+    };
+    match block_at(s, net, last.0, outputs, from) {
+        Passed::Past(next) => gates_at(s, net, head, next),
+        Passed::Failed(fault, n) => Passed::Failed(fault, n),
+    }
+}
+
+// From the latches on.
+fn latches_at(s: &[u8], net: &mut [u16], head: Head, from: Cursor) -> Passed
+    requires { ⌜ Counted head × (from .place ≤ 10000) ⌝ }
+    ensures { λ r. ⌜ Took (latchesOf (now (s .entry)) head (from .free) (from .at)) (now (net .entry)) (now (net .exit)) (from .place) r ⌝ }
+{
+    let last = Variable(head.variables).literal(true);
+    let latches = Block {
+        kind: Kind::Latch,
+        count: head.latches,
+        first: head.inputs + 1,
+        line: head.inputs as u32 + 2,
+    };
+    match block_at(s, net, last.0, latches, from) {
+        Passed::Past(next) => outputs_at(s, net, head, next),
+        Passed::Failed(fault, n) => Passed::Failed(fault, n),
+    }
+}
+
+// From the inputs on.
+fn inputs_at(s: &[u8], net: &mut [u16], head: Head) -> Passed
+    requires { ⌜ Counted head ⌝ }
+    ensures { λ r. ⌜ Took (inputsOf (now (s .entry)) head) (now (net .entry)) (now (net .exit)) 5 r ⌝ }
+{
+    let inputs = Block {
+        kind: Kind::Input,
+        count: head.inputs,
+        first: 1,
+        line: 2,
+    };
+    let from = Cursor {
+        free: 0,
+        at: head.next,
+        place: HEADER,
+    };
+    match block_at(s, net, 0, inputs, from) {
+        Passed::Past(next) => latches_at(s, net, head, next),
+        Passed::Failed(fault, n) => Passed::Failed(fault, n),
+    }
+}
+
+// The whole file.
+pub fn read_file(s: &[u8], net: &mut [u16]) -> Passed
+    ensures { λ r. ⌜ Took (fileRead (now (s .entry))) (now (net .entry)) (now (net .exit)) 0 r ⌝ }
+{
+    match header_at(s) {
+        HeadRead::Good(head) => {
+            store_head(net, head);
+            inputs_at(s, net, head)
+        }
+        HeadRead::Bad(fault) => Passed::Failed(fault, 1),
+    }
+}

@@ -1,0 +1,200 @@
+// What each kind of line says. The literals due are made by the caller.
+use crate::Fault;
+use crate::Given;
+use crate::Head;
+use crate::HeadRead;
+use crate::Kind;
+use crate::LineRead;
+use crate::fields::fields_at;
+use crate::fields::has_tag;
+use crate::fields::latch_fields;
+ghost use mathlib.Core.Path.{_≡_};
+ghost use Rattle.netlist.specs.Valid.{headerOk};
+ghost use Rattle.aiger_read.specs.Lines.{inputAt, latchAt, outputAt, gateAt};
+ghost use Rattle.aiger_read.specs.Steps.{rowIn, resetRow, kindAt, HeadIs};
+
+// The most variables, not counting variable 0.
+const MAX_VARIABLES: usize = 4095;
+
+// The most inputs.
+const MAX_INPUTS: usize = 64;
+
+// The most uninitialised latches.
+const MAX_FREE: usize = 6;
+
+// An input has the literal due.
+fn input_line(s: &[u8], lit: u16, free: usize, at: usize) -> LineRead
+    ensures { λ r. ⌜ rowIn r ≡ inputAt (now (s .entry)) lit free at ⌝ }
+{
+    let line = fields_at(s, at, 0);
+    if !line.formed {
+        return LineRead::Bad(Fault::WrongShape);
+    }
+    let values = line.values;
+    if values[0] != lit as usize {
+        return LineRead::Bad(Fault::OutOfLimits);
+    }
+    LineRead::Good(Given {
+        count: 0,
+        first: 0,
+        second: 0,
+        free: free,
+        next: line.next,
+    })
+}
+
+// A latch whose literal and next fit: its reset is 0, 1 or, for six latches at most, its own literal.
+fn latch_reset(lit: u16, next: u16, reset: usize, free: usize, after: usize) -> LineRead
+    ensures { λ r. ⌜ rowIn r ≡ resetRow lit next reset free after ⌝ }
+{
+    if reset <= 1 {
+        return LineRead::Good(Given {
+            count: 2,
+            first: next,
+            second: reset as u16,
+            free: free,
+            next: after,
+        });
+    }
+    if reset != lit as usize {
+        return LineRead::Bad(Fault::OutOfLimits);
+    }
+    if free >= MAX_FREE {
+        return LineRead::Bad(Fault::OutOfLimits);
+    }
+    LineRead::Good(Given {
+        count: 2,
+        first: next,
+        second: lit,
+        free: free + 1,
+        next: after,
+    })
+}
+
+// A latch has the literal due, next at most `last`, and a reset of 0, 1 or its own literal.
+fn latch_line(s: &[u8], last: u16, lit: u16, free: usize, at: usize) -> LineRead
+    ensures { λ r. ⌜ rowIn r ≡ latchAt (now (s .entry)) last lit free at ⌝ }
+{
+    let line = latch_fields(s, at);
+    if !line.formed {
+        return LineRead::Bad(Fault::WrongShape);
+    }
+    let latch = line.values;
+    if latch[0] != lit as usize {
+        return LineRead::Bad(Fault::OutOfLimits);
+    }
+    if latch[1] > last as usize {
+        return LineRead::Bad(Fault::OutOfLimits);
+    }
+    latch_reset(lit, latch[1] as u16, latch[2], free, line.next)
+}
+
+// An output is at most `last`.
+fn output_line(s: &[u8], last: u16, free: usize, at: usize) -> LineRead
+    ensures { λ r. ⌜ rowIn r ≡ outputAt (now (s .entry)) last free at ⌝ }
+{
+    let line = fields_at(s, at, 0);
+    if !line.formed {
+        return LineRead::Bad(Fault::WrongShape);
+    }
+    let values = line.values;
+    if values[0] > last as usize {
+        return LineRead::Bad(Fault::OutOfLimits);
+    }
+    LineRead::Good(Given {
+        count: 1,
+        first: values[0] as u16,
+        second: 0,
+        free: free,
+        next: line.next,
+    })
+}
+
+// A gate has the literal due, above its operands, the larger of them first.
+fn gate_line(s: &[u8], lit: u16, free: usize, at: usize) -> LineRead
+    ensures { λ r. ⌜ rowIn r ≡ gateAt (now (s .entry)) lit free at ⌝ }
+{
+    let line = fields_at(s, at, 2);
+    if !line.formed {
+        return LineRead::Bad(Fault::WrongShape);
+    }
+    let gate = line.values;
+    if gate[0] != lit as usize {
+        return LineRead::Bad(Fault::OutOfLimits);
+    }
+    if gate[1] >= lit as usize {
+        return LineRead::Bad(Fault::OutOfLimits);
+    }
+    if gate[2] > gate[1] {
+        return LineRead::Bad(Fault::OutOfLimits);
+    }
+    LineRead::Good(Given {
+        count: 2,
+        first: gate[1] as u16,
+        second: gate[2] as u16,
+        free: free,
+        next: line.next,
+    })
+}
+
+// The line of a kind.
+pub fn line_of(s: &[u8], kind: Kind, last: u16, lit: u16, free: usize, at: usize) -> LineRead
+    ensures { λ r. ⌜ rowIn r ≡ kindAt (now (s .entry)) kind last lit free at ⌝ }
+{
+    match kind {
+        Kind::Input => input_line(s, lit, free, at),
+        Kind::Latch => latch_line(s, last, lit, free, at),
+        Kind::Output => output_line(s, last, free, at),
+        Kind::Gate => gate_line(s, lit, free, at),
+    }
+}
+
+// The limits of a header. No count is above M, so their sum does not wrap.
+fn header_fits(m: usize, i: usize, l: usize, o: usize, a: usize) -> bool
+    ensures { λ r. ⌜ r ≡ headerOk m i l o a ⌝ }
+{
+    if m > MAX_VARIABLES {
+        return false;
+    }
+    if i > MAX_INPUTS {
+        return false;
+    }
+    if i < 1 {
+        return false;
+    }
+    if l > m {
+        return false;
+    }
+    if a > m {
+        return false;
+    }
+    if o != 1 {
+        return false;
+    }
+    m == i + l + a
+}
+
+// The header.
+pub fn header_at(s: &[u8]) -> HeadRead
+    ensures { λ r. ⌜ HeadIs (now (s .entry)) r ⌝ }
+{
+    if !has_tag(s) {
+        return HeadRead::Bad(Fault::WrongShape);
+    }
+    let line = fields_at(s, 4, 4);
+    if !line.formed {
+        return HeadRead::Bad(Fault::WrongShape);
+    }
+    let values = line.values;
+    if !header_fits(values[0], values[1], values[2], values[3], values[4]) {
+        return HeadRead::Bad(Fault::OutOfLimits);
+    }
+    HeadRead::Good(Head {
+        variables: values[0] as u16,
+        inputs: values[1] as u16,
+        latches: values[2] as u16,
+        outputs: values[3] as u16,
+        gates: values[4] as u16,
+        next: line.next,
+    })
+}

@@ -37,7 +37,7 @@ fn misformed() -> Line
 }
 
 // The numbers 0 to `last` of a line: blanks part them, and an LF ends them.
-pub fn fields_at(s: &[u8], at: usize, last: usize) -> Line
+pub(crate) fn fields_at(s: &[u8], at: usize, last: usize) -> Line
     requires { ⌜ last ≤ 4 ⌝ }
     ensures { λ r. ⌜ LineIs (fieldsOf (now (s .entry)) last at) r ⌝ }
 {
@@ -62,7 +62,7 @@ pub fn fields_at(s: &[u8], at: usize, last: usize) -> Line
 }
 
 // The numbers of a latch's line: two, or three where the reset is written.
-pub fn latch_fields(s: &[u8], at: usize) -> Line
+pub(crate) fn latch_fields(s: &[u8], at: usize) -> Line
     ensures { λ r. ⌜ LineIs (latchFields (now (s .entry)) at) r ⌝ }
 {
     let two = fields_at(s, at, 1);
@@ -73,7 +73,7 @@ pub fn latch_fields(s: &[u8], at: usize) -> Line
 }
 
 // Whether a text starts with `aag `.
-pub fn has_tag(s: &[u8]) -> bool
+pub(crate) fn has_tag(s: &[u8]) -> bool
     ensures { λ r. ⌜ r ≡ hasTag (now (s .entry)) ⌝ }
 {
     if byte_at(s, 0) != b'a' {

@@ -180,7 +180,7 @@ fn inputs_at(s: &[u8], net: &mut [u16], head: Head) -> Passed
 }
 
 // The whole file.
-pub fn read_file(s: &[u8], net: &mut [u16]) -> Passed
+pub(crate) fn read_file(s: &[u8], net: &mut [u16]) -> Passed
     ensures { λ r. ⌜ Took (fileRead (now (s .entry))) (now (net .entry)) (now (net .exit)) 0 r ⌝ }
 {
     match header_at(s) {

@@ -138,7 +138,7 @@ fn gate_line(s: &[u8], lit: u16, free: usize, at: usize) -> LineRead
 }
 
 // The line of a kind.
-pub fn line_of(s: &[u8], kind: Kind, last: u16, lit: u16, free: usize, at: usize) -> LineRead
+pub(crate) fn line_of(s: &[u8], kind: Kind, last: u16, lit: u16, free: usize, at: usize) -> LineRead
     ensures { λ r. ⌜ rowIn r ≡ kindAt (now (s .entry)) kind last lit free at ⌝ }
 {
     match kind {
@@ -175,7 +175,7 @@ fn header_fits(m: usize, i: usize, l: usize, o: usize, a: usize) -> bool
 }
 
 // The header.
-pub fn header_at(s: &[u8]) -> HeadRead
+pub(crate) fn header_at(s: &[u8]) -> HeadRead
     ensures { λ r. ⌜ HeadIs (now (s .entry)) r ⌝ }
 {
     if !has_tag(s) {

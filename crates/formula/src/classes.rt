@@ -339,7 +339,7 @@ fn in_name(b: u8) -> bool
 }
 
 // What an operand is, by its first byte.
-pub fn start_of(b: u8) -> Start
+pub(crate) fn start_of(b: u8) -> Start
     ensures { λ r. ⌜ r ≡ startOf b ⌝ }
 {
     match b {
@@ -358,7 +358,7 @@ pub fn start_of(b: u8) -> Start
 }
 
 // The place after the name bytes that stand at a place and on.
-pub fn name_end(s: &[u8], at: usize) -> usize
+pub(crate) fn name_end(s: &[u8], at: usize) -> usize
     ensures { λ r. ⌜ r ≡ at + run (drop at (now (s .entry))) ⌝ }
 {
     let mut i = at;
@@ -372,7 +372,7 @@ pub fn name_end(s: &[u8], at: usize) -> usize
 }
 
 // A name has at most so many bytes.
-pub const LONGEST_NAME: usize = 15;
+pub(crate) const LONGEST_NAME: usize = 15;
 
 // Whether the bytes are a name.
 pub fn is_name(s: &[u8]) -> bool

@@ -162,7 +162,7 @@ fn operand(s: &[u8], at: usize, out: &mut [u16], n: usize) -> Read
 }
 
 // Reads an operand and what operators stronger than `above` join to it, and stores the words from out[n] on.
-pub fn expression(s: &[u8], at: usize, out: &mut [u16], n: usize, above: u8) -> Read
+pub(crate) fn expression(s: &[u8], at: usize, out: &mut [u16], n: usize, above: u8) -> Read
     requires { ⌜ Room (now s) at (now out) n ⌝ }
     ensures { λ r. ⌜ Bounds (length (now (s .entry))) at n r ⌝ }
     ensures { λ r. ⌜ ((f : ℕ) → 2 * (length (now (s .entry)) - at) + 1 ≤ f →

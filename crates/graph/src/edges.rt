@@ -94,7 +94,7 @@ fn arc_of(
 }
 
 // An edge's record: a line that starts at `at`, and where its fields start in it.
-pub fn add_edge(
+pub(crate) fn add_edge(
     text: &[u8],
     g: CheckedGraph,
     line: &[u8],

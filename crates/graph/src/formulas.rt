@@ -54,7 +54,7 @@ fn words_known(
 }
 
 // Judges a field as a formula over the names of the list.
-pub fn judge(text: &[u8], starts: &[usize], total: usize, field: &[u8]) -> Judged
+pub(crate) fn judge(text: &[u8], starts: &[usize], total: usize, field: &[u8]) -> Judged
     ensures { λ r. ⌜ r ≡ judgedFormula (listed (now (text .entry)) (now (starts .entry)) total) (now (field .entry)) ⌝ }
 {
     let f = formula::read(field);
@@ -73,7 +73,7 @@ pub fn judge(text: &[u8], starts: &[usize], total: usize, field: &[u8]) -> Judge
 }
 
 // Of two judgements the fault of the lower number.
-pub fn lower_of(a: Judged, b: Judged) -> Judged
+pub(crate) fn lower_of(a: Judged, b: Judged) -> Judged
     ensures { λ r. ⌜ r ≡ lower a b ⌝ }
 {
     let Judged::Faulty(f) = a else {

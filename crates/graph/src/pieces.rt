@@ -6,7 +6,7 @@ ghost use lib.ListN.{length, take, drop};
 ghost use Rattle.graph.specs.Pieces.{endAt, pieceAt, same};
 
 // The place of the first b at or after `at`, or the length.
-pub fn end_at(s: &[u8], at: usize, b: u8) -> usize
+pub(crate) fn end_at(s: &[u8], at: usize, b: u8) -> usize
     requires { ⌜ at ≤ length (now s) ⌝ }
     ensures { λ r. ⌜ (r ≡ endAt b (now (s .entry)) at) × (at ≤ r) × (r ≤ length (now (s .entry))) ⌝ }
 {
@@ -21,7 +21,7 @@ pub fn end_at(s: &[u8], at: usize, b: u8) -> usize
 }
 
 // The bytes from `at` on, up to the first b.
-pub fn piece(s: &[u8], at: usize, b: u8) -> &[u8]
+pub(crate) fn piece(s: &[u8], at: usize, b: u8) -> &[u8]
     ensures { λ r. ⌜ now r ≡ pieceAt b (now (s .entry)) at ⌝ }
 {
     if s.len() <= at {
@@ -32,7 +32,7 @@ pub fn piece(s: &[u8], at: usize, b: u8) -> &[u8]
 }
 
 // At most n bytes from `at` on.
-pub fn part(s: &[u8], at: usize, n: usize) -> &[u8]
+pub(crate) fn part(s: &[u8], at: usize, n: usize) -> &[u8]
     ensures { λ r. ⌜ now r ≡ take n (drop at (now (s .entry))) ⌝ }
 {
     if s.len() <= at {
@@ -46,7 +46,7 @@ pub fn part(s: &[u8], at: usize, n: usize) -> &[u8]
 }
 
 // Are these the same bytes?
-pub fn same_bytes(a: &[u8], b: &[u8]) -> bool
+pub(crate) fn same_bytes(a: &[u8], b: &[u8]) -> bool
     ensures { λ r. ⌜ r ≡ same (now (a .entry)) (now (b .entry)) ⌝ }
 {
     let mut i = 0;
@@ -64,7 +64,7 @@ pub fn same_bytes(a: &[u8], b: &[u8]) -> bool
 }
 
 // Is the field the one byte b?
-pub fn is_byte(field: &[u8], b: u8) -> bool
+pub(crate) fn is_byte(field: &[u8], b: u8) -> bool
     ensures { λ r. ⌜ r ≡ same (now (field .entry)) (b ∷ []) ⌝ }
 {
     if field.len() == 1 {

@@ -54,7 +54,7 @@ fn with_vertex(g: CheckedGraph, p: usize) -> CheckedGraph
 }
 
 // A signal's record, whose name starts at p.
-pub fn add_signal(text: &[u8], g: CheckedGraph, p: usize) -> Added
+pub(crate) fn add_signal(text: &[u8], g: CheckedGraph, p: usize) -> Added
     requires { ⌜ Kept g ⌝ }
     ensures { λ r. ⌜ AddsName (now (text .entry)) g p addSignal r ⌝ }
 {
@@ -77,7 +77,7 @@ pub fn add_signal(text: &[u8], g: CheckedGraph, p: usize) -> Added
 }
 
 // A constant's record, whose name starts at p.
-pub fn add_constant(text: &[u8], g: CheckedGraph, p: usize) -> Added
+pub(crate) fn add_constant(text: &[u8], g: CheckedGraph, p: usize) -> Added
     requires { ⌜ Kept g ⌝ }
     ensures { λ r. ⌜ AddsName (now (text .entry)) g p addConstant r ⌝ }
 {
@@ -100,7 +100,7 @@ pub fn add_constant(text: &[u8], g: CheckedGraph, p: usize) -> Added
 }
 
 // A vertex's record, whose name starts at p.
-pub fn add_vertex(text: &[u8], g: CheckedGraph, p: usize) -> Added
+pub(crate) fn add_vertex(text: &[u8], g: CheckedGraph, p: usize) -> Added
     requires { ⌜ Kept g ⌝ }
     ensures { λ r. ⌜ AddsName (now (text .entry)) g p addVertex r ⌝ }
 {

@@ -82,7 +82,7 @@ fn edge_shape(line: &[u8], from: usize, to: usize, mark: usize, left: usize, rig
 }
 
 // The record of a line: two fields or six, parted by tabs.
-pub fn shape_of(line: &[u8]) -> Shape
+pub(crate) fn shape_of(line: &[u8]) -> Shape
     ensures { λ r. ⌜ Shaped (now (line .entry)) (recordOf (now (line .entry))) r ⌝ }
 {
     let t0 = end_at(line, 0, b'\t');

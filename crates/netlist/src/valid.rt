@@ -131,7 +131,7 @@ fn gates_ok(net: &[u16], at: usize, first: u16, count: u16) -> bool
 }
 
 // Whether the numbers lent are a netlist.
-pub fn netlist(net: &[u16]) -> bool
+pub(crate) fn netlist(net: &[u16]) -> bool
     ensures { λ r. ⌜ r ≡ isNetlist (now (net .entry)) ⌝ }
 {
     if net.len() < HEADER {

@@ -123,7 +123,7 @@ fn latches_move(net: &[u16], count: usize, values: &[u64], latches: &mut [u64])
 }
 
 // One cycle of a netlist whose buffers are long enough: the output word.
-pub fn advance(net: &[u16], cycle: &[u8], latches: &mut [u64], values: &mut [u64]) -> u64
+pub(crate) fn advance(net: &[u16], cycle: &[u8], latches: &mut [u64], values: &mut [u64]) -> u64
     requires { ⌜ isNetlist (now net) ≡ true ⌝ }
     requires { ⌜ length (now cycle) ≡ inputCount (now net) ⌝ }
     requires { ⌜ latchCount (now net) ≤ length (now latches) ⌝ }

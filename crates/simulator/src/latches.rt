@@ -41,7 +41,7 @@ fn start_word(reset: u16, j: usize) -> u64
 }
 
 // The first words of count latches.
-pub fn starts(net: &[u16], count: usize, latches: &mut [u64])
+pub(crate) fn starts(net: &[u16], count: usize, latches: &mut [u64])
     requires { ⌜ 5 + 2 * count ≤ length (now net) ⌝ }
     requires { ⌜ count ≤ length (now latches) ⌝ }
     ensures { λ _. ⌜ now (latches .exit) ≡ startWords (now (net .entry)) count ++ drop count (now (latches .entry)) ⌝ }

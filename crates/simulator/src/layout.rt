@@ -7,21 +7,21 @@ ghost use Rattle.netlist.specs.Layout.{outputAt, operandsAt};
 ghost use Rattle.netlist.specs.Valid.{isNetlist};
 
 // The places of M, I, L, O and A.
-pub const MAXIMUM: usize = 0;
+pub(crate) const MAXIMUM: usize = 0;
 
-pub const INPUTS: usize = 1;
+pub(crate) const INPUTS: usize = 1;
 
-pub const LATCHES: usize = 2;
+pub(crate) const LATCHES: usize = 2;
 
-pub const OUTPUTS: usize = 3;
+pub(crate) const OUTPUTS: usize = 3;
 
-pub const GATES: usize = 4;
+pub(crate) const GATES: usize = 4;
 
 // How many numbers the header has: the latches follow it, two numbers each.
-pub const HEADER: usize = 5;
+pub(crate) const HEADER: usize = 5;
 
 // The number at a place of a netlist's header.
-pub fn header(net: &[u16], place: usize) -> usize
+pub(crate) fn header(net: &[u16], place: usize) -> usize
     requires { ⌜ isNetlist (now net) ≡ true ⌝ }
     requires { ⌜ place < 5 ⌝ }
     ensures { λ r. ⌜ (r ≡ getD (now (net .entry)) place 0) × (r ≤ 65535) ⌝ }
@@ -30,7 +30,7 @@ pub fn header(net: &[u16], place: usize) -> usize
 }
 
 // The place of the output literal.
-pub fn output_at(net: &[u16]) -> usize
+pub(crate) fn output_at(net: &[u16]) -> usize
     requires { ⌜ isNetlist (now net) ≡ true ⌝ }
     ensures { λ r. ⌜ r ≡ outputAt (now (net .entry)) 0 ⌝ }
 {
@@ -38,7 +38,7 @@ pub fn output_at(net: &[u16]) -> usize
 }
 
 // The place of the first gate's operands.
-pub fn operands_at(net: &[u16]) -> usize
+pub(crate) fn operands_at(net: &[u16]) -> usize
     requires { ⌜ isNetlist (now net) ≡ true ⌝ }
     ensures { λ r. ⌜ r ≡ operandsAt (now (net .entry)) 0 ⌝ }
 {

@@ -63,7 +63,7 @@ impl Cause {
 }
 
 // The tests of a start, with this many latch words lent.
-pub fn start_check(net: &[u16], latches: usize) -> Checked
+pub(crate) fn start_check(net: &[u16], latches: usize) -> Checked
     ensures { λ r. ⌜ r ≡ startCheck (now (net .entry)) latches ⌝ }
 {
     if !is_netlist(net) {
@@ -87,7 +87,13 @@ fn has_words(net: &[u16], latches: usize, values: usize) -> bool
 }
 
 // The tests of a step, with this many latch words and value words lent.
-pub fn step_check(net: &[u16], cycle: &[u8], latches: usize, values: usize, tally: Tally) -> Checked
+pub(crate) fn step_check(
+    net: &[u16],
+    cycle: &[u8],
+    latches: usize,
+    values: usize,
+    tally: Tally,
+) -> Checked
     ensures { λ r. ⌜ r ≡ stepCheck (now (net .entry)) (now (cycle .entry)) latches values tally ⌝ }
 {
     if !is_netlist(net) {
@@ -137,7 +143,7 @@ fn lines_check(
 }
 
 // The tests of a run, with this many latch words, value words and verdict bytes lent.
-pub fn run_check(
+pub(crate) fn run_check(
     net: &[u16],
     trace: &[u8],
     latches: usize,

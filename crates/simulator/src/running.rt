@@ -40,7 +40,7 @@ fn verdict(verdicts: &[u8], cycles: usize) -> Verdict
 }
 
 // Runs the cycles of a trace: the netlist was tested, and no cycle is tested again.
-pub fn run_cycles(
+pub(crate) fn run_cycles(
     net: &[u16],
     trace: &[u8],
     latches: &mut [u64],

@@ -13,17 +13,17 @@ pub struct Tally {
 const MAX_COUNT: usize = 4294967295;
 
 // A word with a 1 in every lane.
-pub const ALL_LANES: u64 = 18446744073709551615;
+pub(crate) const ALL_LANES: u64 = 18446744073709551615;
 
 // Whether a cycle with this output word is rejected: some lane is 0.
-pub fn is_rejected(word: u64) -> bool
+pub(crate) fn is_rejected(word: u64) -> bool
     ensures { λ r. ⌜ r ≡ isRejected word ⌝ }
 {
     word != ALL_LANES
 }
 
 // The tally after a cycle with this output word.
-pub fn tallied(tally: Tally, word: u64) -> Tally
+pub(crate) fn tallied(tally: Tally, word: u64) -> Tally
     requires { ⌜ hasRoom tally 1 ≡ true ⌝ }
     ensures { λ r. ⌜ r ≡ counted tally word ⌝ }
 {
@@ -36,7 +36,7 @@ pub fn tallied(tally: Tally, word: u64) -> Tally
 
 // Whether neither number of the tally passes its 32 bits with some new cycles, of which a trace has at
 // most one for each of its 1,048,576 bytes.
-pub fn has_room(tally: Tally, cycles: usize) -> bool
+pub(crate) fn has_room(tally: Tally, cycles: usize) -> bool
     requires { ⌜ cycles ≤ 1048576 ⌝ }
     ensures { λ r. ⌜ r ≡ hasRoom tally cycles ⌝ }
 {

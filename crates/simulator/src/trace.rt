@@ -15,7 +15,7 @@ fn is_bit(b: u8) -> bool
 }
 
 // Whether there is one byte `0` or `1` for each of n inputs.
-pub fn is_cycle(n: usize, cycle: &[u8]) -> bool
+pub(crate) fn is_cycle(n: usize, cycle: &[u8]) -> bool
     ensures { λ r. ⌜ r ≡ isCycle n (now (cycle .entry)) ⌝ }
 {
     if cycle.len() != n {
@@ -42,7 +42,7 @@ fn fits_line(n: usize, col: usize, b: u8) -> bool
 }
 
 // The first wrong line of a trace for n inputs, from 1, or 0 where there is none.
-pub fn fault(trace: &[u8], n: usize) -> u32
+pub(crate) fn fault(trace: &[u8], n: usize) -> u32
     requires { ⌜ length (now trace) ≤ 1048576 ⌝ }
     ensures { λ r. ⌜ r ≡ faultOf n (now (trace .entry)) ⌝ }
 {
@@ -65,7 +65,7 @@ pub fn fault(trace: &[u8], n: usize) -> u32
 }
 
 // The n bytes of a trace from at on, or as many as there are.
-pub fn cycle_at(trace: &[u8], at: usize, n: usize) -> &[u8]
+pub(crate) fn cycle_at(trace: &[u8], at: usize, n: usize) -> &[u8]
     ensures { λ r. ⌜ now r ≡ take n (drop at (now (trace .entry))) ⌝ }
 {
     if at >= trace.len() {

@@ -2,7 +2,7 @@
 use mathlib.Core.Path.{_≡_, refl, sym, ap, ap₂, _∙_}
 use mathlib.Core.Bool.{true}
 use mathlib.Core.List.{List, [], _∷_, _++_}
-use Prim.Native.Nat.{ℕ, suc, _+_, _-_, _*_, _/_, _<_, _≤_}
+use Prim.Native.Nat.{ℕ, suc, _+_, _-_, _*_, _/_, _<_, _≤_, min}
 use native.Mathlib.Nat.{add-mul, one-mul, mul-le-mul-right}
 use native.Mathlib.Omega.{arith}
 use lib.ListN.{length, set, take, drop, length-append, length-drop}
@@ -124,6 +124,11 @@ module _ (net trace : List ℕ) (n count : ℕ) (latches₀ values₀ verdicts�
   module _ (latches values verdicts : List ℕ) (t : Tally) (at k : ℕ) (g : Going latches values verdicts t at k) where
     pub going-line : Asked → k < count → at + (n + 1) ≤ length trace
     going-line a h = rw (g .place) (line-within n count k (length trace) h (lines-within a))
+
+    pub going-place : Asked → k < count → (p : ℕ) → p ≡ min (at + n + 1) (length trace) → p ≡ at + (n + 1)
+    going-place a h p e =
+        let l = going-line a h in
+        omega arith
 
     pub going-room : k < count → hasRoom t 1 ≡ true
     going-room h =

@@ -13,6 +13,7 @@ mod cycle;
 mod latches;
 mod layout;
 mod outcome;
+mod reader;
 mod refusal;
 mod running;
 mod tally;

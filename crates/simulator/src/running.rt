@@ -1,4 +1,4 @@
-// The cycles of a run that is not refused, one after another.
+// The cycles of a run that is not refused, one after another, as the trace reader hands them out.
 ghost use mathlib.Core.Path.{_≡_};
 ghost use Prim.Native.Nat.{_≤_};
 ghost use lib.ListN.{length, take};
@@ -11,10 +11,11 @@ use crate::layout::header;
 use crate::outcome::Ran;
 use crate::outcome::RunOutcome;
 use crate::outcome::Verdict;
+use crate::reader::next_cycle;
+use crate::reader::next_place;
 use crate::tally::Tally;
 use crate::tally::is_rejected;
 use crate::tally::tallied;
-use crate::trace::cycle_at;
 
 // The byte of a cycle with this output word: 1 rejected, 0 accepted.
 fn verdict_byte(word: u64) -> u8
@@ -57,11 +58,11 @@ pub(crate) fn run_cycles(
     let mut at: usize = 0;
     let mut k: usize = 0;
     while k < lines {
-        let cycle = cycle_at(trace, at, n);
+        let cycle = next_cycle(trace, at, n);
         let word = advance(net, cycle, latches, values);
         verdicts[k] = verdict_byte(word);
         total = tallied(total, word);
-        at += n + 1;
+        at = next_place(trace, at, n);
         k += 1;
     }
     let last = verdict(verdicts, lines);

@@ -1,7 +1,7 @@
 // Cycles and traces, by the number of inputs alone: which bytes are a cycle, the first wrong line of a
-// trace, and the cycle that stands at a place of it.
+// trace, the cycle that stands at a place of it, and the place after that.
 ghost use mathlib.Core.Path.{_≡_};
-ghost use Prim.Native.Nat.{_≤_};
+ghost use Prim.Native.Nat.{_+_, _≤_, min};
 ghost use lib.ListN.{length, take, drop};
 ghost use Rattle.simulator.specs.Traces.{isBit, isCycle, fitsLine, faultOf};
 
@@ -76,4 +76,17 @@ pub(crate) fn cycle_at(trace: &[u8], at: usize, n: usize) -> &[u8]
     }
     let end = at + n;
     &trace[at..end]
+}
+
+// The place after a cycle of n inputs at a place and its LF, or the end of the trace.
+pub(crate) fn place_after(trace: &[u8], at: usize, n: usize) -> usize
+    ensures { λ r. ⌜ r ≡ min (at + n + 1) (length (now (trace .entry))) ⌝ }
+{
+    if at >= trace.len() {
+        return trace.len();
+    }
+    if n >= trace.len() - at {
+        return trace.len();
+    }
+    at + n + 1
 }

@@ -1,10 +1,10 @@
 -- `simulator::running::run_cycles` meets its contract: what is still to run gives what the whole run gives. Assumes nothing.
 use mathlib.Core.Path.{_≡_, refl, _∙_}
-use Prim.Native.Nat.{_-_}
+use Prim.Native.Nat.{_+_, _-_}
 use native.Mathlib.Omega.{arith}
 use lib.ListN.{length}
 use borrow.Author.Needs.{needs}
-use Rattle.simulator.proofs.RunLaws.{asked, length-part, Going, Asked, ready, bytes-enough, going-start, going-line, going-room, going-next, going-done}
+use Rattle.simulator.proofs.RunLaws.{asked, length-part, Going, Asked, ready, bytes-enough, going-start, going-line, going-place, going-room, going-next, going-done}
 use Rattle.simulator.proofs.RefusalLaws.{run-passed}
 use Rattle.simulator.proofs.running.run_cycles.Statement.{statement}
 use Rattle.simulator.proofs.running.run_cycles.Tie as tie
@@ -31,15 +31,15 @@ loop-holds c =
     let a = asked _ _ _ _ _ _ _ _ (c .before .before .before .before .before .before .pre) (c .header .ensures .0) refl in
     (a, going-start _ _ _ _ _ _ _ _ a)
 
-cycle-at-requires : tie.Need-cycle-at-requires Inv-loop μ-loop
-cycle-at-requires c κs = search needs
+next-cycle-requires : tie.Need-next-cycle-requires Inv-loop μ-loop
+next-cycle-requires c κs = search needs
 
 advance-requires : tie.Need-advance-requires Inv-loop μ-loop
 advance-requires c κs =
     let i = c .before .before .before .before .loop .inv in
     let p = ready _ _ _ _ _ _ _ _ (i .0) in
     let h = going-line _ _ _ _ _ _ _ _ _ _ _ _ _ _ (i .1) (i .0) (c .before .before .before .loop-test .taken) in
-    let e : length (c .before .before .cycle-at .result .now) ≡ c .before .before .before .before .before .header .result = rw (c .before .before .cycle-at .ensures) (length-part (c .before .before .before .before .before .before .before .before .before .before .before .args .trace .now) (c .before .before .before .before .loop .at) (c .before .before .before .before .before .header .result) (omega arith)) in
+    let e : length (c .before .before .next-cycle .result .now) ≡ c .before .before .before .before .before .header .result = rw (c .before .before .next-cycle .ensures) (length-part (c .before .before .before .before .before .before .before .before .before .before .before .args .trace .now) (c .before .before .before .before .loop .at) (c .before .before .before .before .before .header .result) (omega arith)) in
     (p .netlist, (e ∙ i .0 .inputs, (rw (i .1 .latches-length) (p .latches), rw (i .1 .values-length) (p .values))))
 
 verdict-byte-requires : tie.Need-verdict-byte-requires Inv-loop μ-loop
@@ -56,16 +56,13 @@ slice-write-verdicts c =
 tallied-requires : tie.Need-tallied-requires Inv-loop μ-loop
 tallied-requires c κs = going-room _ _ _ _ _ _ _ _ _ _ _ _ _ _ (c .before .before .before .before .before .before .before .before .before .before .loop .inv .1) (c .before .before .before .before .before .before .before .before .before .loop-test .taken)
 
-add-at : tie.Need-add-at Inv-loop μ-loop
-add-at c = let h = going-line _ _ _ _ _ _ _ _ _ _ _ _ _ _ (c .before .before .before .before .before .before .before .before .before .before .before .loop .inv .1) (c .before .before .before .before .before .before .before .before .before .before .before .loop .inv .0) (c .before .before .before .before .before .before .before .before .before .before .loop-test .taken) in omega arith
-
-add-at-2 : tie.Need-add-at-2 Inv-loop μ-loop
-add-at-2 c = let h = going-line _ _ _ _ _ _ _ _ _ _ _ _ _ _ (c .before .before .before .before .before .before .before .before .before .before .before .loop .inv .1) (c .before .before .before .before .before .before .before .before .before .before .before .loop .inv .0) (c .before .before .before .before .before .before .before .before .before .before .loop-test .taken) in omega arith
+next-place-requires : tie.Need-next-place-requires Inv-loop μ-loop
+next-place-requires c κs = search needs
 
 add-k : tie.Need-add-k Inv-loop μ-loop
 add-k c =
-    let b = bytes-enough _ _ _ _ _ _ _ _ (c .before .before .before .before .before .before .before .before .before .before .before .loop .inv .0) in
-    let t = c .before .before .before .before .before .before .before .before .before .before .loop-test .taken in
+    let b = bytes-enough _ _ _ _ _ _ _ _ (c .before .before .before .before .before .before .before .before .before .before .before .before .loop .inv .0) in
+    let t = c .before .before .before .before .before .before .before .before .before .before .before .loop-test .taken in
     omega arith
 
 loop-less : tie.Need-loop-less Inv-loop μ-loop
@@ -73,11 +70,13 @@ loop-less c = search needs
 
 loop-again : tie.Need-loop-again Inv-loop μ-loop
 loop-again c =
-    let i = c .before .before .before .before .before .before .before .before .before .before .before .loop .inv in
-    let a = c .before .before .before .before .before .before .advance in (
+    let i = c .before .before .before .before .before .before .before .before .before .before .before .before .loop .inv in
+    let t = c .before .before .before .before .before .before .before .before .before .before .before .loop-test .taken in
+    let e : c .next-place .result ≡ c .before .before .before .before .before .before .before .before .before .before .before .before .loop .at + (c .before .before .before .before .before .before .before .before .before .before .before .before .before .header .result + 1) = going-place _ _ _ _ _ _ _ _ _ _ _ _ _ _ (i .1) (i .0) t _ (c .next-place .ensures) in
+    let a = c .before .before .before .before .before .before .before .advance in (
       i .0,
-      going-next _ _ _ _ _ _ _ _ _ _ _ _ _ _ (i .1) (i .0) (c .before .before .before .before .before .before .before .before .before .before .loop-test .taken) (c .before .before .before .before .before .before .before .before .before .cycle-at .result .now) (c .before .before .before .before .before .before .before .before .before .cycle-at .ensures)
-          (a .result) _ _ (a .ensures .0) (a .ensures .1) (a .ensures .2) (search needs) (search needs) (c .before .verdict-byte .result) (c .before .verdict-byte .ensures) (c .tallied .result) (c .tallied .ensures),
+      rw e (going-next _ _ _ _ _ _ _ _ _ _ _ _ _ _ (i .1) (i .0) t (c .before .before .before .before .before .before .before .before .before .before .next-cycle .result .now) (c .before .before .before .before .before .before .before .before .before .before .next-cycle .ensures)
+          (a .result) _ _ (a .ensures .0) (a .ensures .1) (a .ensures .2) (search needs) (search needs) (c .before .before .verdict-byte .result) (c .before .before .verdict-byte .ensures) (c .before .tallied .result) (c .before .tallied .ensures)),
     )
 
 verdict-requires : tie.Need-verdict-requires Inv-loop μ-loop
@@ -109,13 +108,12 @@ run-cycles-spec =
     add-lines
     div-lines
     loop-holds
-    cycle-at-requires
+    next-cycle-requires
     advance-requires
     verdict-byte-requires
     slice-write-verdicts
     tallied-requires
-    add-at
-    add-at-2
+    next-place-requires
     add-k
     loop-less
     loop-again

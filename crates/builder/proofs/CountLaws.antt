@@ -1,0 +1,272 @@
+-- The gates counted by the arrays of a checked graph are those of its formula. Assumes nothing.
+use mathlib.Core.Path.{_≡_, refl, sym, ap, _∙_}
+use mathlib.Core.Bool.{Bool, true, false, cond}
+use mathlib.Core.List.{List, [], _∷_, _++_}
+use mathlib.Core.Logic.{⊎-elim}
+use Prim.Native.Nat.{ℕ, zero, suc, _+_, _-_, _≤_, _<_}
+use native.Mathlib.Nat.{add-zero}
+use native.Mathlib.Numerals.{add-one}
+use native.Mathlib.Omega.{arith}
+use borrow.Author.Tests.{eq-eqb, ne-eqb, lt-ltb, le-ltb}
+use lib.Dec.{eqb, ltb}
+use lib.ListN.{length, getD, take, drop, replicate, length-append, List·getD-append}
+use Rattle.assertion.specs.Graph.{Bytes, Expr, truth, signal, constant, neg, conj, disj, xor, same, Edge, Graph, isTerminal}
+use Rattle.formula.specs.declared.Formula.{Formula}
+use Rattle.formula.specs.declared.Start.the-variants.{Bit}
+use Rattle.formula.specs.Classes.{pick, strengthOf, startOf}
+use Rattle.formula.specs.Grammar.{Tree, name, bit, not, group, join, Parsed, none, tree, treeOf}
+use Rattle.formula.specs.Reading.{nameWord, byteWord, postfix, padded, answerOf, formulaOf}
+use Rattle.formula.proofs.PostfixLaws.{InField, name-word-small, byte-word-large, byte-word-back, field-short, in-field, words-few}
+use Rattle.graph.specs.Reading.{joined, symbol, resolved, accepted, graphOf}
+use Rattle.graph.specs.Pieces.{lookUp}
+use Rattle.graph.specs.Held.{heldOf, noArc}
+use Rattle.graph.specs.Steps.{Kept}
+use Rattle.graph.specs.declared.Arc.{Arc}
+use Rattle.graph.specs.declared.CheckedGraph.{CheckedGraph}
+use Rattle.graph.proofs.FieldLaws.{FormulaAt}
+use Rattle.graph.proofs.HeldLaws.{FormulaSound, EdgeSound, Sound, sound}
+use Rattle.circuit.specs.Count.{formulaGates, allFormulaGates, incoming, entered, terminals, gateFormula}
+use Rattle.builder.specs.Machine.{summed, byteGates, wordGates, gatesAt, readGates, fieldGates, arcGates, goesTo, isReached, hasMark, gatesBy}
+use Rattle.builder.proofs.FormulaLaws.{bit-is}
+
+-- ---- a loop that adds: what is left has one term less, and none at the end
+module _ (f : ℕ → ℕ) where
+  pub summed-step : (i n : ℕ) → i < n → summed f i (n - i) ≡ f i + summed f (i + 1) (n - (i + 1))
+  unfolding summed
+  summed-step i n l = let z : n - i ≡ suc (n - (i + 1)) = omega arith in rw (z, add-one i)
+
+  pub summed-end : (i n : ℕ) → n ≤ i → summed f i (n - i) ≡ 0
+  unfolding summed
+  summed-end i n l = let z : n - i ≡ 0 = omega arith in rw z
+
+  pub summed-whole : (n : ℕ) → summed f 0 (n - 0) ≡ summed f 0 n
+  summed-whole n = let z : n - 0 ≡ n = omega arith in ap (summed f 0) z
+
+-- the sum over a list, term by term
+module _ {A : Type 0} (g : A → ℕ) (total : List A → ℕ) (zero-is : total [] ≡ 0) (more : (x : A) (l : List A) → total (x ∷ l) ≡ g x + total l) (f : ℕ → ℕ) (d : A) where
+  pub summed-list : (l : List A) (j : ℕ) → ((i : ℕ) → i < length l → f (j + i) ≡ g (getD l i d)) → summed f j (length l) ≡ total l
+  unfolding summed
+  summed-list [] j h = sym zero-is
+  summed-list (x ∷ l) j h =
+      let a : f j ≡ g x = rw (add-zero j) at (h 0 (omega arith)) in
+      let b : summed f (suc j) (length l) ≡ total l = summed-list l (suc j) (λ i k. let z : suc j + i ≡ j + suc i = omega arith in rw z (h (suc i) (omega arith))) in
+      rw (a, b) (sym (more x l))
+
+-- ---- one word
+module _ (w : ℕ) where
+  pub gates-name : w < 4096 → wordGates w ≡ 0
+  unfolding wordGates
+  gates-name h = rw (lt-ltb w 4096 h)
+
+  module _ (h : 4096 ≤ w) where
+    pub gates-and : w - 4096 ≡ 38 → wordGates w ≡ 1
+    unfolding wordGates byteGates
+    gates-and e = rw (le-ltb w 4096 h, e)
+
+    pub gates-or : w - 4096 ≡ 124 → wordGates w ≡ 1
+    unfolding wordGates byteGates
+    gates-or e = rw (le-ltb w 4096 h, e)
+
+    pub gates-xor : w - 4096 ≡ 94 → wordGates w ≡ 3
+    unfolding wordGates byteGates
+    gates-xor e = rw (le-ltb w 4096 h, e)
+
+    pub gates-same : w - 4096 ≡ 61 → wordGates w ≡ 3
+    unfolding wordGates byteGates
+    gates-same e = rw (le-ltb w 4096 h, e)
+
+    pub gates-other : (w - 4096 ≡ 38 → ⊥) → (w - 4096 ≡ 124 → ⊥) → (w - 4096 ≡ 94 → ⊥) → (w - 4096 ≡ 61 → ⊥) → wordGates w ≡ 0
+    unfolding wordGates byteGates
+    gates-other a b c d = rw (le-ltb w 4096 h, ne-eqb (w - 4096) 38 a, ne-eqb (w - 4096) 124 b, ne-eqb (w - 4096) 94 c, ne-eqb (w - 4096) 61 d)
+
+byte-gates : (b : ℕ) → wordGates (byteWord b) ≡ byteGates b
+unfolding wordGates
+byte-gates b = rw (le-ltb (byteWord b) 4096 (byte-word-large b), byte-word-back b)
+
+gates-at : (words : List ℕ) (i : ℕ) {x : ℕ} → x ≡ wordGates (getD words i 0) → x ≡ gatesAt words i
+unfolding gatesAt
+gates-at words i e = e
+
+-- the loop over the words goes on
+pub word-counted : (words : List ℕ) (i n : ℕ) {x : ℕ} → i < n → x ≡ wordGates (getD words i 0) → summed (gatesAt words) i (n - i) ≡ x + summed (gatesAt words) (i + 1) (n - (i + 1))
+word-counted words i n l e = rw (gates-at words i e) (summed-step (gatesAt words) i n l)
+
+-- ---- one edge
+pub mark-counted : (arcs : List Arc) (i n : ℕ) {m : Bool} → i < n → m ≡ getD arcs i noArc .marked → summed (hasMark arcs) i (n - i) ≡ cond m 1 0 + summed (hasMark arcs) (i + 1) (n - (i + 1))
+unfolding hasMark
+mark-counted arcs i n l e = summed-step (hasMark arcs) i n l ∙ rw e
+
+pub gates-counted : (text : Bytes) (arcs : List Arc) (i n : ℕ) {a : Arc} {x : ℕ} → i < n → a ≡ getD arcs i noArc → x ≡ fieldGates text (a .left) (a .lefts) + fieldGates text (a .right) (a .rights) → summed (arcGates text arcs) i (n - i) ≡ x + summed (arcGates text arcs) (i + 1) (n - (i + 1))
+unfolding arcGates
+gates-counted text arcs i n {a} {x} l e k = summed-step (arcGates text arcs) i n l ∙ rw (← e, ← k)
+
+module _ (arcs : List Arc) (v i n : ℕ) (l : i < n) where
+  -- the first that goes to v
+  pub goes : {t : ℕ} → t ≡ getD arcs i noArc .to → t ≡ v → 1 ≤ summed (goesTo arcs v) i (n - i)
+  unfolding goesTo
+  goes e k = omega (arith, summed-step (goesTo arcs v) i n l, ap (λ (b : Bool). cond {A = ℕ} b 1 0) (eq-eqb (getD arcs i noArc .to) v (sym e ∙ k)))
+
+  pub goes-not : {t : ℕ} → t ≡ getD arcs i noArc .to → (t ≡ v → ⊥) → summed (goesTo arcs v) i (n - i) ≡ summed (goesTo arcs v) (i + 1) (n - (i + 1))
+  unfolding goesTo
+  goes-not e k = omega (arith, summed-step (goesTo arcs v) i n l, ap (λ (b : Bool). cond {A = ℕ} b 1 0) (ne-eqb (getD arcs i noArc .to) v (λ q. k (e ∙ q))))
+
+pub reached-some : (arcs : List Arc) (edges v : ℕ) → 1 ≤ summed (goesTo arcs v) 0 edges → 1 ≡ isReached arcs edges v
+unfolding isReached
+reached-some arcs edges v h = omega arith
+
+pub reached-none : (arcs : List Arc) (edges v : ℕ) → summed (goesTo arcs v) 0 edges ≡ 0 → 0 ≡ isReached arcs edges v
+unfolding isReached
+reached-none arcs edges v h = omega arith
+
+-- ---- one field
+read-few : (t : Parsed) (s : Bytes) → treeOf s ≡ t → (answerOf t .count ≤ 255) × (answerOf t .count ≤ length (answerOf t .words))
+unfolding answerOf padded
+read-few none s h = (omega arith, omega arith)
+read-few (tree e) s h = (words-few s e h, omega (arith, length-append (postfix e) (replicate (255 - length (postfix e)) 0)))
+
+pub words-room : (s : Bytes) {f : Formula} → f ≡ formulaOf s → (f .count ≤ 255) × (f .count ≤ length (f .words))
+unfolding formulaOf
+words-room s e = rw e (read-few (treeOf s) s refl)
+
+pub field-counted : (text : Bytes) (at n : ℕ) {field : Bytes} {f : Formula} {x : ℕ} → field ≡ take n (drop at text) → f ≡ formulaOf field → x ≡ summed (gatesAt (f .words)) 0 (f .count) → x ≡ fieldGates text at n
+unfolding fieldGates readGates
+field-counted text at n p e k = k ∙ rw (e, p)
+
+-- ---- the words of a tree
+abbrev allWords : List ℕ → ℕ
+allWords [] = 0
+allWords (w ∷ ws) = wordGates w + allWords ws
+
+all-append : (a b : List ℕ) → allWords (a ++ b) ≡ allWords a + allWords b
+all-append [] b = omega arith
+all-append (w ∷ a) b = omega (arith, all-append a b)
+
+-- a word of a byte after others
+all-byte : (a : List ℕ) (b : ℕ) → allWords (a ++ (byteWord b ∷ [])) ≡ allWords a + byteGates b
+all-byte a b = omega (arith, all-append a (byteWord b ∷ []), byte-gates b)
+
+plain-byte : (b : ℕ) → startOf b ≡ Bit → byteGates b ≡ 0
+unfolding byteGates
+plain-byte b h = ⊎-elim (λ (e : b ≡ 48). rw e) (λ (e : b ≡ 49). rw e) (bit-is b h)
+
+not-byte : byteGates 33 ≡ 0
+unfolding byteGates
+not-byte = refl
+
+symbol-gates : (m i : ℕ) → formulaGates (symbol m i) ≡ 0
+unfolding symbol formulaGates
+symbol-gates m i = at (ltb i m)
+  where
+    at : (t : Bool) → formulaGates (pick t (signal i) (constant (i - m))) ≡ 0
+    at true = refl
+    at false = refl
+
+truth-gates : (b : Bool) → formulaGates (truth b) ≡ 0
+unfolding formulaGates
+truth-gates b = refl
+
+neg-gates : (x : Expr) → formulaGates (neg x) ≡ formulaGates x
+unfolding formulaGates
+neg-gates x = refl
+
+joined-gates : (b : ℕ) (x y : Expr) → 0 < strengthOf b → formulaGates (joined b x y) ≡ formulaGates x + formulaGates y + byteGates b
+unfolding joined byteGates strengthOf formulaGates
+joined-gates b x y h = at (eqb b 38) (eqb b 124) (eqb b 94) (eqb b 61) h
+  where
+    at : (t u v w : Bool) → 0 < pick t 4 (pick v 3 (pick u 2 (pick w 1 0))) → formulaGates (pick t (conj x y) (pick u (disj x y) (pick v (xor x y) (same x y)))) ≡ formulaGates x + formulaGates y + pick t 1 (pick u 1 (pick v 3 (pick w 3 0)))
+    at true u v w k = refl
+    at false true v w k = refl
+    at false false true w k = refl
+    at false false false true k = refl
+    at false false false false k = absurd (omega arith)
+
+module _ (m : ℕ) (ns : List Bytes) (s : Bytes) (short : length s ≤ 255) where
+  tree-gates : (e : Tree) → InField s e → allWords (postfix e) ≡ formulaGates (resolved m ns s e)
+  unfolding postfix resolved
+  tree-gates (name p k) h =
+      omega (arith, gates-name (nameWord p k) (name-word-small s p k short h), symbol-gates m (lookUp (take k (drop p s)) ns .place))
+  tree-gates (bit b) h = omega (arith, byte-gates b, plain-byte b h, truth-gates (eqb b 49))
+  tree-gates (not e) h = omega (arith, all-byte (postfix e) 33, not-byte, tree-gates e h, neg-gates (resolved m ns s e))
+  tree-gates (group e) h = tree-gates e h
+  tree-gates (join b e e2) h =
+      omega (arith, all-byte (postfix e ++ postfix e2) b, all-append (postfix e) (postfix e2), tree-gates e (h .1), tree-gates e2 (h .2), joined-gates b (resolved m ns s e) (resolved m ns s e2) (h .0))
+
+words-gates : (ws more : List ℕ) → summed (gatesAt (ws ++ more)) 0 (length ws) ≡ allWords ws
+unfolding gatesAt
+words-gates ws more =
+    summed-list wordGates allWords refl (λ x l. refl) (gatesAt (ws ++ more)) 0 ws 0
+    (λ i l. let z : 0 + i ≡ i = omega arith in rw (z, List·getD-append ws more 0 i l))
+
+read-gates : (s : Bytes) (e : Tree) → treeOf s ≡ tree e → readGates (formulaOf s) ≡ allWords (postfix e)
+unfolding readGates formulaOf answerOf padded
+read-gates s e h = rw h (words-gates (postfix e) (replicate (255 - length (postfix e)) 0))
+
+formula-gates : (text : Bytes) (p n : ℕ) (ss cs : List Bytes) (s : Bytes) (x : Expr) → FormulaAt text p n s → FormulaSound ss cs s x → fieldGates text p n ≡ formulaGates x
+unfolding fieldGates
+formula-gates text p n ss cs s x a f =
+    let e = f .parse in
+    let h = f .parsed in
+    rw (a .bytes) (read-gates s e h ∙ tree-gates (length ss) (ss ++ cs) s (field-short s e h) e (in-field s e h) ∙ sym (ap formulaGates (f .means)))
+
+-- ---- all edges
+abbrev noEdge : Edge
+noEdge =
+    record {
+      from = 0;
+      to = 0;
+      marked = false;
+      antecedent = truth false;
+      consequent = truth false;
+      antecedentText = [];
+      consequentText = [];
+    }
+
+module _ (text : Bytes) {graph : Graph} (s : Sound text graph) where
+  abbrev edges-sound : (i : ℕ) → i < length (graph .edges) → EdgeSound text (graph .signals) (graph .constants) (graph .vertices) (getD (heldOf text graph .arcs) i noArc) (getD (graph .edges) i noEdge)
+  edges-sound i l = s .edge-at i noEdge l
+
+  incoming-is : (v : ℕ) → summed (goesTo (heldOf text graph .arcs) v) 0 (length (graph .edges)) ≡ incoming v (graph .edges)
+  unfolding goesTo
+  incoming-is v =
+      summed-list (λ e. cond (eqb (e .to) v) 1 0) (incoming v) refl (λ e es. refl) (goesTo (heldOf text graph .arcs) v) noEdge (graph .edges) 0
+      (λ i l. let z : 0 + i ≡ i = omega arith in rw (z, edges-sound i l .to-is))
+
+  entered-is : (k v : ℕ) → summed (isReached (heldOf text graph .arcs) (length (graph .edges))) v k ≡ entered v k (graph .edges)
+  unfolding summed isReached
+  entered-is zero v = refl
+  entered-is (suc k) v = rw (incoming-is v, entered-is k (suc v))
+
+  terminals-is : summed (hasMark (heldOf text graph .arcs)) 0 (length (graph .edges)) ≡ terminals graph (graph .edges)
+  unfolding hasMark isTerminal
+  terminals-is =
+      summed-list (λ e. cond (e .marked) 1 0) (terminals graph) refl (λ e es. refl) (hasMark (heldOf text graph .arcs)) noEdge (graph .edges) 0
+      (λ i l. let z : 0 + i ≡ i = omega arith in rw (z, edges-sound i l .marked-is))
+
+  formulas-is : summed (arcGates text (heldOf text graph .arcs)) 0 (length (graph .edges)) ≡ allFormulaGates (graph .edges)
+  unfolding arcGates
+  formulas-is =
+      summed-list (λ e. formulaGates (e .antecedent) + formulaGates (e .consequent)) allFormulaGates refl (λ e es. refl) (arcGates text (heldOf text graph .arcs)) noEdge (graph .edges) 0
+      (λ i l.
+      let z : 0 + i ≡ i = omega arith in
+      let w = edges-sound i l in
+      let a = getD (heldOf text graph .arcs) i noArc in
+      let e = getD (graph .edges) i noEdge in
+      rw (z, formula-gates text (a .left) (a .lefts) (graph .signals) (graph .constants) (e .antecedentText) (e .antecedent) (w .antecedent-at) (w .antecedent-sound), formula-gates text (a .right) (a .rights) (graph .signals) (graph .constants) (e .consequentText) (e .consequent) (w .consequent-at) (w .consequent-sound)))
+
+  edges-held : heldOf text graph .edges ≡ length (graph .edges)
+  unfolding heldOf
+  edges-held = refl
+
+  vertices-held : heldOf text graph .vertices ≡ length (graph .vertices)
+  unfolding heldOf
+  vertices-held = refl
+
+  held-counted : gatesBy text (heldOf text graph) ≡ gateFormula graph
+  unfolding gatesBy gateFormula
+  held-counted =
+      let z : length (graph .vertices) - 0 ≡ length (graph .vertices) = omega arith in
+      rw (edges-held, vertices-held, z, entered-is (length (graph .vertices) - 1) 1, entered-is (length (graph .vertices)) 0, terminals-is, formulas-is)
+
+-- THE LAW: the gates counted by the arrays of an accepted text are those of the formula
+pub counted : (text : Bytes) {g : CheckedGraph} (graph : Graph) → graphOf text ≡ accepted graph → g ≡ heldOf text graph → gatesBy text g ≡ gateFormula graph
+counted text graph h e = rw e (held-counted text (sound text h))

@@ -1,0 +1,127 @@
+-- Header, latches and output stored one after another stand in front of the gates. Assumes nothing.
+use mathlib.Core.Path.{_≡_, refl, sym, ap, _∙_}
+use mathlib.Core.List.{List, [], _∷_, _++_, append-assoc, append-nil}
+use Prim.Native.Nat.{ℕ, zero, suc, _+_, _-_, _*_, _≤_}
+use native.Mathlib.Nat.{zero-add}
+use native.Mathlib.Omega.{arith}
+use lib.ListN.{length, take, drop, set, length-append, length-drop}
+use lib.Seq.{sets, sets-eq, drop-at, drop-drop, length-take-le, take-length, drop-length}
+use borrow.Rule.Slice.PartMut.{putMid, same-len-mid}
+use Rattle.text.proofs.WriterLaws.{sets-append}
+use Rattle.assertion.specs.Graph.{Bytes, Edge}
+use Rattle.graph.specs.declared.CheckedGraph.{CheckedGraph}
+use Rattle.circuit.specs.Numbers.{constantLatches, operands}
+use Rattle.builder.specs.Adding.{Room}
+use Rattle.builder.specs.Edges.{edgesIn, edgeOf, edgesOf, GraphGood}
+use Rattle.builder.specs.Monitor.{edgePairs, headerOf, frontOf, monitorGates, monitorEdges, MonitorMade, latchIn, gateIn, gatesIn, frontIn, numbersIn}
+use Rattle.builder.proofs.AddingLaws.{words-length, kept}
+use Rattle.builder.proofs.EdgeLaws.{edges-count}
+
+constants-length : (k l : ℕ) → length (constantLatches l k) ≡ 2 * k
+constants-length zero l = refl
+constants-length (suc k) l = omega (arith, constants-length k (suc l))
+
+pairs-length : (hs ds : List ℕ) → length ds ≡ length hs → length (edgePairs hs ds) ≡ 4 * length hs
+pairs-length [] ds h = refl
+pairs-length (x ∷ hs) [] h = absurd (omega arith)
+pairs-length (x ∷ hs) (y ∷ ds) h = omega (arith, pairs-length hs ds (omega arith))
+
+module _ (hs ds : List ℕ) (s k e a o : ℕ) (hl : length hs ≡ e) (dl : length ds ≡ e) where
+  pub front-length : length (frontOf s k e a hs ds o) ≡ 6 + 2 * k + 4 * e
+  unfolding frontOf
+  front-length =
+      omega (
+        arith,
+        length-append (constantLatches (2 + s) k) (edgePairs hs ds ++ (o ∷ [])),
+        length-append (edgePairs hs ds) (o ∷ []),
+        constants-length k (2 + s),
+        pairs-length hs ds (dl ∙ sym hl),
+      )
+
+  -- stored one after another
+  pub front-all : (net : List ℕ) (p q : ℕ) → p ≡ 5 + 2 * k → q ≡ p + 4 * e →
+      set (sets (sets (sets net 0 (headerOf (1 + s) (k + 2 * e) a)) 5 (constantLatches (2 + s) k)) p (edgePairs hs ds)) q o ≡ sets net 0 (frontOf s k e a hs ds o)
+  unfolding frontOf
+  front-all net p q ep eq =
+      let H = headerOf (1 + s) (k + 2 * e) a in
+      let C = constantLatches (2 + s) k in
+      let L = edgePairs hs ds in
+      let c : p ≡ 5 + length C = omega (arith, constants-length k (2 + s)) in
+      let d : q ≡ p + length L = omega (arith, pairs-length hs ds (dl ∙ sym hl)) in
+      ap (λ (i : ℕ). sets (sets (sets (sets net 0 H) 5 C) p L) i (o ∷ [])) d
+      ∙ sets-append L (o ∷ []) (sets (sets net 0 H) 5 C) p
+      ∙ ap (λ (i : ℕ). sets (sets (sets net 0 H) 5 C) i (L ++ (o ∷ []))) c
+      ∙ sets-append C (L ++ (o ∷ [])) (sets net 0 H) 5
+      ∙ sets-append H (C ++ (L ++ (o ∷ []))) net 0
+
+-- ---- the front and the gates
+at-front : (vs l : List ℕ) → length vs ≤ length l → sets l 0 vs ≡ vs ++ drop (length vs) l
+at-front vs l h = let e : 0 + length vs ≤ length l = omega arith in sets-eq vs l 0 e ∙ rw (zero-add (length vs))
+
+pub whole : (net front ops : List ℕ) (base : ℕ) → length front ≡ base → base + length ops ≤ length net →
+    sets (take base net ++ sets (drop base net) 0 ops) 0 front ≡ (front ++ ops) ++ drop (length (front ++ ops)) net
+whole net front ops base e h =
+    let t : length (take base net) ≡ base = length-take-le base net (omega arith) in
+    let d : length ops ≤ length (drop base net) = rw length-drop (omega arith) in
+    let o : sets (drop base net) 0 ops ≡ ops ++ drop (length ops) (drop base net) = at-front ops (drop base net) d in
+    let k : length front ≤ length (take base net ++ sets (drop base net) 0 ops) = omega (arith, t, length-append (take base net) (sets (drop base net) 0 ops)) in
+    let n : length (front ++ ops) ≡ base + length ops = length-append front ops ∙ ap (λ (i : ℕ). i + length ops) e in
+    at-front front (take base net ++ sets (drop base net) 0 ops) k
+    ∙ rw (e, drop-at (take base net) (sets (drop base net) 0 ops) base t, o, drop-drop (length ops) base net, n) (sym (append-assoc front ops (drop (base + length ops) net)))
+
+-- the same where the gates were stored into a lent part of the buffer
+whole-part : (net front ops : List ℕ) (base : ℕ) → length front ≡ base → base + length ops ≤ length net →
+    sets (putMid base (length net - base) net (sets (take (length net - base) (drop base net)) 0 ops)) 0 front ≡ (front ++ ops) ++ drop (length (front ++ ops)) net
+whole-part net front ops base e h =
+    rw (← length-drop base net, take-length (drop base net), drop-length (drop base net), append-nil (sets (drop base net) 0 ops)) (whole net front ops base e h)
+
+-- ---- of a checked graph
+outs-length : (s : ℕ) (hs ds : List ℕ) (es : List Edge) (n : ℕ) → (length (edgesOf s n hs ds es .happy) ≡ length es) × (length (edgesOf s n hs ds es .condemned) ≡ length es)
+outs-length s hs ds [] n = (refl, refl)
+outs-length s hs ds (e ∷ es) n = let r = outs-length s hs ds es (n + length (edgeOf s n hs ds e .gates)) in (ap suc (r .0), ap suc (r .1))
+
+monitor-outs : (s v : ℕ) (es : List Edge) (l f : ℕ) → (length (monitorEdges s v es l f .happy) ≡ length es) × (length (monitorEdges s v es l f .condemned) ≡ length es)
+unfolding monitorEdges
+monitor-outs s v es l f = outs-length s _ _ es _
+
+module _ (text : Bytes) (g : CheckedGraph) (good : GraphGood text g) where
+  abbrev base : ℕ
+  base = 6 + 2 * g .constants + 4 * g .edges
+
+  front-in : length (frontIn text g) ≡ base
+  unfolding frontIn
+  front-in =
+      let n = edges-count text g (omega (arith, good .arcs, good .edges)) in
+      let o = monitor-outs (g .signals) (g .vertices) (edgesIn text g) (latchIn g) (gateIn g) in
+      front-length _ _ (g .signals) (g .constants) (g .edges) (length (gatesIn text g)) _ (o .0 ∙ n) (o .1 ∙ n)
+
+  pub numbers-length : length (numbersIn text g) ≡ base + 2 * length (gatesIn text g)
+  unfolding numbersIn
+  numbers-length = omega (arith, length-append (frontIn text g) (operands (gatesIn text g)), front-in, words-length (gatesIn text g))
+
+  module _ (net : List ℕ) (long : length (numbersIn text g) ≤ length net) where
+    pub room : (1 + g .signals) + (g .constants + 2 * g .edges) + length (gatesIn text g) ≤ 4095 →
+        Room (gateIn g) (take (length net - base) (drop base net)) (gateIn g) (length (monitorGates (g .signals) (g .vertices) (edgesIn text g) (latchIn g) (gateIn g)))
+    unfolding gatesIn
+    room few =
+        record {
+          from = omega arith;
+          room = omega (arith, numbers-length, length-take-le (length net - base) (drop base net) (omega (arith, length-drop base net)));
+          few = omega arith;
+        }
+
+    pub still : {part hs ds : List ℕ} {next literal : ℕ} →
+        MonitorMade (gateIn g) (take (length net - base) (drop base net)) part next literal hs ds (g .signals) (g .vertices) (edgesIn text g) (latchIn g) →
+        base ≤ length (putMid base (length net - base) net part)
+    still {part} m = omega (arith, numbers-length, same-len-mid base (length net - base) net part (kept (m .gates)))
+
+    pub stored : {part hs ds : List ℕ} {next literal : ℕ} →
+        MonitorMade (gateIn g) (take (length net - base) (drop base net)) part next literal hs ds (g .signals) (g .vertices) (edgesIn text g) (latchIn g) →
+        sets (putMid base (length net - base) net part) 0 (frontOf (g .signals) (g .constants) (g .edges) (next - gateIn g) hs ds literal)
+        ≡ numbersIn text g ++ drop (length (numbersIn text g)) net
+    unfolding numbersIn frontIn gatesIn
+    stored {part} {hs} {ds} {next} {literal} m =
+        let z : 2 * (gateIn g - gateIn g) ≡ 0 = omega arith in
+        let c : next - gateIn g ≡ length (gatesIn text g) = omega (arith, m .gates .count) in
+        rw (m .happies, m .condemneds, m .accept, c, m .gates .words, z)
+        (whole-part net (frontIn text g) (operands (gatesIn text g)) base front-in (omega (arith, numbers-length, words-length (gatesIn text g))))

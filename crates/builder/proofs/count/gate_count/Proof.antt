@@ -1,0 +1,67 @@
+-- `builder::count::gate_count` meets its contract. Assumes nothing.
+use borrow.Author.Needs.{needs}
+use Rattle.builder.specs.Machine.{gatesBy}
+use Rattle.builder.proofs.CountLaws.{counted}
+use Rattle.builder.proofs.count.gate_count.Statement.{statement}
+use Rattle.builder.proofs.count.gate_count.Tie as tie
+
+entered-requires : tie.Need-entered-requires
+entered-requires c κs = search needs
+
+less-requires : tie.Need-less-requires
+less-requires c κs = search needs
+
+entered-requires-2 : tie.Need-entered-requires-2
+entered-requires-2 c κs = search needs
+
+less-requires-2 : tie.Need-less-requires-2
+less-requires-2 c κs = search needs
+
+marks-requires : tie.Need-marks-requires
+marks-requires c κs = search needs
+
+less-requires-3 : tie.Need-less-requires-3
+less-requires-3 c κs = search needs
+
+formulas-gates-requires : tie.Need-formulas-gates-requires
+formulas-gates-requires c κs = search needs
+
+mul-result : tie.Need-mul-result
+mul-result c = search needs
+
+add-result : tie.Need-add-result
+add-result c = search needs
+
+add-result-2 : tie.Need-add-result-2
+add-result-2 c = search needs
+
+add-result-3 : tie.Need-add-result-3
+add-result-3 c = search needs
+
+add-result-4 : tie.Need-add-result-4
+add-result-4 c = search needs
+
+returns : tie.Need-returns
+unfolding gatesBy
+returns c =
+    let m = c .before .before in
+    let e = m .before .before .before .before in
+    λ graph h w. rw (c .before .less3 .ensures, m .marks .ensures .0, m .before .less2 .ensures, m .before .before .entered2 .ensures, m .before .before .before .less .ensures, e .entered .ensures, c .formulas-gates .ensures .0) (counted (e .before .before .args .text .now) graph h w)
+
+pub gate-count-spec : {M : Type 1} → statement M
+gate-count-spec =
+    tie.close
+    (tie.spec
+    entered-requires
+    less-requires
+    entered-requires-2
+    less-requires-2
+    marks-requires
+    less-requires-3
+    formulas-gates-requires
+    mul-result
+    add-result
+    add-result-2
+    add-result-3
+    add-result-4
+    returns)

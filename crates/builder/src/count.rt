@@ -1,0 +1,158 @@
+// How many gates the monitor of a checked graph has, by document 01's formula; no gate is made.
+ghost use mathlib.Core.Path.{_≡_};
+ghost use Prim.Native.Nat.{_+_, _-_, _*_, _≤_};
+ghost use lib.ListN.{length};
+ghost use Rattle.assertion.specs.Graph.{Graph};
+ghost use Rattle.graph.specs.Reading.{accepted, graphOf};
+ghost use Rattle.graph.specs.Held.{heldOf};
+ghost use Rattle.graph.specs.Steps.{Kept};
+ghost use Rattle.circuit.specs.Count.{gateFormula};
+ghost use Rattle.builder.specs.Machine.{summed, wordGates, gatesAt, fieldGates, arcGates, isReached, hasMark, reachedFrom};
+use crate::formulas::AND;
+use crate::formulas::NO_NAME;
+use crate::formulas::OR;
+use crate::formulas::XOR;
+use crate::formulas::part;
+use graph::Arc;
+use graph::CheckedGraph;
+
+// The byte of `=`.
+const SAME: usize = 61;
+
+// The gates of a word.
+fn word_gates(w: usize) -> usize
+    ensures { λ r. ⌜ (r ≡ wordGates w) × (r ≤ 3) ⌝ }
+{
+    if w < NO_NAME {
+        return 0;
+    }
+    let b = w - NO_NAME;
+    if b == AND {
+        return 1;
+    }
+    if b == OR {
+        return 1;
+    }
+    if b == XOR {
+        return 3;
+    }
+    if b == SAME {
+        return 3;
+    }
+    0
+}
+
+// The gates of the first `count` words.
+fn words_gates(words: &[u16], count: usize) -> usize
+    requires { ⌜ (count ≤ 255) × (count ≤ length (now words)) ⌝ }
+    ensures { λ r. ⌜ (r ≡ summed (gatesAt (now (words .entry))) 0 count) × (r ≤ 765) ⌝ }
+{
+    let mut sum: usize = 0;
+    let mut i = 0;
+    while i < count {
+        sum += word_gates(words[i] as usize);
+        i += 1;
+    }
+    sum
+}
+
+// The gates of the formula that stands in the text from `at` on, n bytes long.
+fn field_gates(text: &[u8], at: usize, n: usize) -> usize
+    ensures { λ r. ⌜ (r ≡ fieldGates (now (text .entry)) at n) × (r ≤ 765) ⌝ }
+{
+    let field = part(text, at, n);
+    let read = formula::read(field);
+    let count = read.count;
+    words_gates(&read.words, count)
+}
+
+// The gates of an edge's formulas.
+fn edge_gates(text: &[u8], e: Arc) -> usize
+    ensures { λ r. ⌜ (r ≡ fieldGates (now (text .entry)) (e .left) (e .lefts) + fieldGates (now (text .entry)) (e .right) (e .rights)) × (r ≤ 1530) ⌝ }
+{
+    let left = field_gates(text, e.left, e.lefts);
+    let right = field_gates(text, e.right, e.rights);
+    left + right
+}
+
+// The gates of all formulas.
+fn formulas_gates(text: &[u8], g: CheckedGraph) -> usize
+    requires { ⌜ g .edges ≤ 128 ⌝ }
+    ensures { λ r. ⌜ (r ≡ summed (arcGates (now (text .entry)) (g .arcs)) 0 (g .edges)) × (r ≤ 1530 * 128) ⌝ }
+{
+    let mut sum: usize = 0;
+    let mut i = 0;
+    while i < g.edges {
+        let e = g.arcs[i];
+        sum += edge_gates(text, e);
+        i += 1;
+    }
+    sum
+}
+
+// 1 where an edge goes to the vertex v, else 0.
+fn reached(g: CheckedGraph, v: usize) -> usize
+    requires { ⌜ g .edges ≤ 128 ⌝ }
+    ensures { λ r. ⌜ (r ≡ isReached (g .arcs) (g .edges) v) × (r ≤ 1) ⌝ }
+{
+    let mut i = 0;
+    while i < g.edges {
+        let e = g.arcs[i];
+        if e.to == v {
+            return 1;
+        }
+        i += 1;
+    }
+    0
+}
+
+// How many of the vertices from `first` on have an incoming edge.
+fn entered(g: CheckedGraph, first: usize) -> usize
+    requires { ⌜ (g .edges ≤ 128) × (g .vertices ≤ 64) × (first ≤ 1) ⌝ }
+    ensures { λ r. ⌜ r ≡ reachedFrom g first ⌝ }
+{
+    let mut sum: usize = 0;
+    let mut v = first;
+    while v < g.vertices {
+        sum += reached(g, v);
+        v += 1;
+    }
+    sum
+}
+
+// How many edges have the mark.
+fn marks(g: CheckedGraph) -> usize
+    requires { ⌜ g .edges ≤ 128 ⌝ }
+    ensures { λ r. ⌜ (r ≡ summed (hasMark (g .arcs)) 0 (g .edges)) × (r ≤ 128) ⌝ }
+{
+    let mut sum: usize = 0;
+    let mut i = 0;
+    while i < g.edges {
+        let e = g.arcs[i];
+        if e.marked {
+            sum += 1;
+        }
+        i += 1;
+    }
+    sum
+}
+
+// a − b, or 0 where b is larger.
+fn less(a: usize, b: usize) -> usize
+    ensures { λ r. ⌜ r ≡ a - b ⌝ }
+{
+    if b <= a { a - b } else { 0 }
+}
+
+// How many gates the monitor of a checked graph has.
+pub(crate) fn gate_count(text: &[u8], g: CheckedGraph) -> usize
+    requires { ⌜ Kept g ⌝ }
+    ensures { λ r. ⌜ ((graph : Graph) → graphOf (now (text .entry)) ≡ accepted graph → g ≡ heldOf (now (text .entry)) graph → r ≡ gateFormula graph) ⌝ }
+{
+    let edges = g.edges;
+    let later = less(edges, entered(g, 1));
+    let all = less(edges, entered(g, 0));
+    let ends = less(marks(g), 1);
+    let formulas = formulas_gates(text, g);
+    7 * edges + later + all + ends + formulas
+}

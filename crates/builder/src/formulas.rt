@@ -1,0 +1,234 @@
+// The gates of a formula: its words, operands before their operator, run over a stack of literals.
+ghost use mathlib.Core.Path.{_≡_};
+ghost use mathlib.Core.List.{[], _∷_};
+ghost use Prim.Native.Nat.{_≤_};
+ghost use lib.ListN.{length, take, drop};
+ghost use Rattle.formula.specs.Grammar.{treeOf};
+ghost use Rattle.graph.specs.Reading.{judgedFormula, treeExpr};
+ghost use Rattle.graph.specs.Steps.{listed};
+ghost use Rattle.graph.specs.declared.Judged.the-variants.{Fine};
+ghost use Rattle.circuit.specs.Gates.{inv, gate, xorOf};
+ghost use Rattle.circuit.specs.Build.{formula};
+ghost use Rattle.builder.specs.Adding.{Added, Room};
+ghost use Rattle.builder.specs.Machine.{Makes, nameLiteral, operated, byteMade, wordMade, taken, program, Enough, Ended};
+use crate::Made;
+use crate::gates::inverse;
+use crate::gates::literal;
+use crate::gates::put_gate;
+
+// A word of a formula below this is a name: its first place and its length.
+pub(crate) const NO_NAME: usize = 4096;
+
+const PLACE: usize = 16;
+
+// The bytes of the other words.
+const ZERO: usize = 48;
+
+const ONE: usize = 49;
+
+const NOT: usize = 33;
+
+pub(crate) const AND: usize = 38;
+
+pub(crate) const OR: usize = 124;
+
+pub(crate) const XOR: usize = 94;
+
+// The variable of the first name.
+const FIRST_NAME: usize = 2;
+
+// Two literals at the bottom that no word takes, and one for each word.
+const DEEPEST_STACK: usize = 257;
+
+// At most n bytes from `at` on.
+pub(crate) fn part(s: &[u8], at: usize, n: usize) -> &[u8]
+    ensures { λ r. ⌜ now r ≡ take n (drop at (now (s .entry))) ⌝ }
+{
+    if s.len() <= at {
+        return &s[..0];
+    }
+    if n <= s.len() - at {
+        let e = at + n;
+        return &s[at..e];
+    }
+    &s[at..]
+}
+
+// The literal of the name that a word gives.
+fn name_literal(text: &[u8], starts: &[usize], total: usize, field: &[u8], w: usize) -> u16
+    requires { ⌜ total ≤ 69 ⌝ }
+    ensures { λ r. ⌜ r ≡ nameLiteral (listed (now (text .entry)) (now (starts .entry)) total) (now (field .entry)) w ⌝ }
+{
+    let name = part(field, w / PLACE, w % PLACE);
+    let found = graph::look_up(text, starts, total, name);
+    let place = found.place;
+    literal(FIRST_NAME + place, false)
+}
+
+// Neither of two: one gate.
+fn put_neither(out: &mut [u16], f: usize, n: usize, a: u16, b: u16) -> usize
+    requires { ⌜ Room f (now out) n 1 ⌝ }
+    ensures { λ r. ⌜ Added f (now (out .entry)) (now (out .exit)) n r (gate (inv a) (inv b) ∷ []) ⌝ }
+{
+    let x = inverse(a);
+    let y = inverse(b);
+    put_gate(out, f, n, x, y)
+}
+
+// Just one of two: both, neither, then neither of those.
+fn put_xor(out: &mut [u16], f: usize, n: usize, a: u16, b: u16) -> usize
+    requires { ⌜ Room f (now out) n 3 ⌝ }
+    ensures { λ r. ⌜ Added f (now (out .entry)) (now (out .exit)) n r (xorOf n a b .gates) ⌝ }
+{
+    let both = literal(n, false);
+    let neither = literal(n + 1, false);
+    let i = put_gate(out, f, n, a, b);
+    let j = put_neither(out, f, i, a, b);
+    put_neither(out, f, j, both, neither)
+}
+
+// An operator `&`, `|`, `^` or `=` between two literals.
+fn put_operator(out: &mut [u16], f: usize, n: usize, b: usize, x: u16, y: u16) -> Made
+    requires { ⌜ Room f (now out) n (length (operated b n x y .gates)) ⌝ }
+    ensures { λ r. ⌜ Makes f (now (out .entry)) (now (out .exit)) n r (operated b n x y) ⌝ }
+{
+    if b == AND {
+        let next = put_gate(out, f, n, x, y);
+        let lit = literal(n, false);
+        return Made { next, lit };
+    }
+    if b == OR {
+        let next = put_neither(out, f, n, x, y);
+        let lit = literal(n, true);
+        return Made { next, lit };
+    }
+    let next = put_xor(out, f, n, x, y);
+    let lit = literal(n + 2, false);
+    if b == XOR {
+        return Made { next, lit };
+    }
+    Made {
+        next,
+        lit: inverse(lit),
+    }
+}
+
+// A word that is no name, by its byte; x and y are the literals on top of the stack, y the topmost.
+fn put_byte(out: &mut [u16], f: usize, n: usize, b: usize, x: u16, y: u16) -> Made
+    requires { ⌜ Room f (now out) n (length (byteMade b n x y .gates)) ⌝ }
+    ensures { λ r. ⌜ Makes f (now (out .entry)) (now (out .exit)) n r (byteMade b n x y) ⌝ }
+{
+    if b == ZERO {
+        let lit = literal(0, false);
+        return Made { next: n, lit };
+    }
+    if b == ONE {
+        let lit = literal(0, true);
+        return Made { next: n, lit };
+    }
+    if b == NOT {
+        let lit = inverse(y);
+        return Made { next: n, lit };
+    }
+    put_operator(out, f, n, b, x, y)
+}
+
+// One word: its gates, and the literal that it puts on the stack.
+fn put_word(
+    out: &mut [u16],
+    f: usize,
+    n: usize,
+    text: &[u8],
+    starts: &[usize],
+    total: usize,
+    field: &[u8],
+    w: usize,
+    x: u16,
+    y: u16,
+) -> Made
+    requires { ⌜ (total ≤ 69) × Room f (now out) n (length (wordMade (listed (now text) (now starts) total) (now field) w n x y .gates)) ⌝ }
+    ensures { λ r. ⌜ Makes f (now (out .entry)) (now (out .exit)) n r (wordMade (listed (now (text .entry)) (now (starts .entry)) total) (now (field .entry)) w n x y) ⌝ }
+{
+    if w < NO_NAME {
+        let lit = name_literal(text, starts, total, field, w);
+        return Made { next: n, lit };
+    }
+    put_byte(out, f, n, w - NO_NAME, x, y)
+}
+
+// How many literals a word takes from the stack.
+fn taken_by(w: usize) -> usize
+    ensures { λ r. ⌜ r ≡ taken w ⌝ }
+{
+    if w < NO_NAME {
+        return 0;
+    }
+    let b = w - NO_NAME;
+    if b == ZERO {
+        return 0;
+    }
+    if b == ONE {
+        return 0;
+    }
+    if b == NOT {
+        return 1;
+    }
+    2
+}
+
+// The words of a formula, one after another.
+fn put_words(
+    out: &mut [u16],
+    f: usize,
+    n: usize,
+    text: &[u8],
+    starts: &[usize],
+    total: usize,
+    field: &[u8],
+    words: &[u16],
+    count: usize,
+) -> Made
+    requires { ⌜ (total ≤ 69) × (count ≤ 255) × (count ≤ length (now words)) × Enough 2 (take count (now words)) × Room f (now out) n (length (program (listed (now text) (now starts) total) (now field) (take count (now words)) n .gates)) ⌝ }
+    ensures { λ r. ⌜ Ended f (now (out .entry)) (now (out .exit)) n r (program (listed (now (text .entry)) (now (starts .entry)) total) (now (field .entry)) (take count (now (words .entry))) n) ⌝ }
+{
+    let mut stack = [0u16; DEEPEST_STACK];
+    let mut height = 2;
+    let mut next = n;
+    let mut i = 0;
+    while i < count {
+        let w = words[i] as usize;
+        let x = stack[height - 2];
+        let y = stack[height - 1];
+        let made = put_word(out, f, next, text, starts, total, field, w, x, y);
+        let below = height - taken_by(w);
+        next = made.next;
+        stack[below] = made.lit;
+        height = below + 1;
+        i += 1;
+    }
+    Made {
+        next,
+        lit: stack[height - 1],
+    }
+}
+
+// A formula's gates: `signals` of the names are signals, and the others constants.
+pub(crate) fn put_formula(
+    out: &mut [u16],
+    f: usize,
+    n: usize,
+    text: &[u8],
+    starts: &[usize],
+    signals: usize,
+    total: usize,
+    field: &[u8],
+) -> Made
+    requires { ⌜ (judgedFormula (listed (now text) (now starts) total) (now field) ≡ Fine) × (signals ≤ total) × (total ≤ 69)
+        × Room f (now out) n (length (formula signals n (treeExpr signals (listed (now text) (now starts) total) (now field) (treeOf (now field))) .gates)) ⌝ }
+    ensures { λ r. ⌜ Added f (now (out .entry)) (now (out .exit)) n (r .next) (formula signals n (treeExpr signals (listed (now (text .entry)) (now (starts .entry)) total) (now (field .entry)) (treeOf (now (field .entry)))) .gates)
+        × (r .lit ≡ formula signals n (treeExpr signals (listed (now (text .entry)) (now (starts .entry)) total) (now (field .entry)) (treeOf (now (field .entry)))) .out) ⌝ }
+{
+    let read = formula::read(field);
+    let count = read.count;
+    put_words(out, f, n, text, starts, total, field, &read.words, count)
+}

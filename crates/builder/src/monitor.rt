@@ -1,0 +1,80 @@
+// All gates of the monitor.
+ghost use Prim.Native.Nat.{_+_, _*_, _≤_};
+ghost use lib.ListN.{length, take};
+ghost use Rattle.builder.specs.Adding.{Room};
+ghost use Rattle.builder.specs.Edges.{edgesIn, GraphGood};
+ghost use Rattle.builder.specs.Monitor.{judgeGates, JudgeMade, monitorGates, MonitorMade};
+use crate::Made;
+use crate::chains::put_accept;
+use crate::columns::fill_columns;
+use crate::edges::put_edges;
+use crate::vertices::gather;
+use graph::CheckedGraph;
+
+// The gates of the edges, their literals, and accept.
+fn judge(
+    out: &mut [u16],
+    f: usize,
+    n: usize,
+    text: &[u8],
+    g: CheckedGraph,
+    reached: &[u16],
+    doomed: &[u16],
+    marks: &[usize],
+    happy: &mut [u16],
+    condemned: &mut [u16],
+) -> Made
+    requires { ⌜ (GraphGood (now text) g) × (g .vertices ≤ length (now reached)) × (g .vertices ≤ length (now doomed))
+        × (g .edges ≤ length (now happy)) × (g .edges ≤ length (now condemned)) × (g .edges ≤ length (now marks))
+        × (Room f (now out) n (length (judgeGates (g .signals) n (take (g .vertices) (now reached)) (take (g .vertices) (now doomed)) (take (g .edges) (now marks)) (edgesIn (now text) g)))) ⌝ }
+    ensures { λ r. ⌜ JudgeMade f (now (out .entry)) (now (out .exit)) n (r .next) (r .lit) (take (g .edges) (now (happy .exit))) (take (g .edges) (now (condemned .exit)))
+        (g .signals) (take (g .vertices) (now (reached .entry))) (take (g .vertices) (now (doomed .entry))) (take (g .edges) (now (marks .entry))) (edgesIn (now (text .entry)) g) ⌝ }
+{
+    let m = put_edges(out, f, n, text, g, reached, doomed, happy, condemned);
+    put_accept(out, f, m, marks, condemned, g.edges)
+}
+
+// All gates, the edges' literals, and accept; l is the variable of the first edge's happy latch, f that of
+// the first gate.
+pub(crate) fn put_gates(
+    out: &mut [u16],
+    f: usize,
+    l: usize,
+    text: &[u8],
+    g: CheckedGraph,
+    happy: &mut [u16],
+    condemned: &mut [u16],
+) -> Made
+    requires { ⌜ (GraphGood (now text) g) × (g .edges ≤ length (now happy)) × (g .edges ≤ length (now condemned)) × (l + 2 * g .edges ≤ 4096)
+        × (Room f (now out) f (length (monitorGates (g .signals) (g .vertices) (edgesIn (now text) g) l f))) ⌝ }
+    ensures { λ r. ⌜ MonitorMade f (now (out .entry)) (now (out .exit)) (r .next) (r .lit) (take (g .edges) (now (happy .exit))) (take (g .edges) (now (condemned .exit)))
+        (g .signals) (g .vertices) (edgesIn (now (text .entry)) g) l ⌝ }
+{
+    let mut to = [0usize; 128];
+    let mut marks = [0usize; 128];
+    fill_columns(g, &mut to, &mut marks);
+    let mut reached = [0u16; 64];
+    let mut doomed = [0u16; 64];
+    let n = gather(
+        out,
+        f,
+        l,
+        g.vertices,
+        &to,
+        g.edges,
+        &mut reached,
+        &mut doomed,
+    );
+    judge(
+        out,
+        f,
+        n,
+        text,
+        g,
+        &reached,
+        &doomed,
+        &marks,
+        happy,
+        condemned,
+    )
+}

@@ -2,7 +2,7 @@
 use mathlib.Core.Path.{refl, _≡_}
 use mathlib.Core.List.{_++_}
 use lib.ListN.{length, take, drop, length-set}
-use Prim.Native.Nat.{_-_, _≤_}
+use Prim.Native.Nat.{_-_, _≤_, _<_}
 use native.Mathlib.Omega.{arith}
 use native.Mathlib.Nat.{le-antisymm}
 use Rattle.builder.specs.Adding.{Going}
@@ -32,7 +32,7 @@ put-edge-at-requires c κs =
     let a = c .before .before .before .before .before .before .before .before .before .args in
     let p = c .before .before .before .before .before .before .before .before .before .pre in
     let l = c .before .before .loop in
-    let h = c .before .loop-test .taken in
+    let h : l .i < a .g .edges = omega (arith, c .before .loop-test .taken) in
     let r = edge.edges-row (a .g .arcs) (a .g .edges) (omega (arith, p .0 .arcs, p .0 .edges)) (a .text .now) (namesIn (a .text .now) (a .g)) (a .g .signals) (l .i) h in
     let t = edge.edges-step (a .g .signals) (take (a .g .vertices) (a .reached .now)) (take (a .g .vertices) (a .doomed .now)) (l .next) _ _ _ _ r refl in
     (h, p .0, p .1, p .2, going-room (l .inv .1) (t .0) (p .5))
@@ -60,7 +60,7 @@ loop-again c =
     let a = c .before .before .before .before .before .before .before .before .before .before .before .before .args in
     let p = c .before .before .before .before .before .before .before .before .before .before .before .before .pre in
     let l = c .before .before .before .before .before .loop in
-    let h = c .before .before .before .before .loop-test .taken in
+    let h : l .i < a .g .edges = omega (arith, c .before .before .before .before .loop-test .taken) in
     let b = c .before .before .put-edge-at .ensures in
     let r = edge.edges-row (a .g .arcs) (a .g .edges) (omega (arith, p .0 .arcs, p .0 .edges)) (a .text .now) (namesIn (a .text .now) (a .g)) (a .g .signals) (l .i) h in
     let t = edge.edges-step (a .g .signals) (take (a .g .vertices) (a .reached .now)) (take (a .g .vertices) (a .doomed .now)) (l .next) _ _ _ _ r (b .gates .count) in (

@@ -12,9 +12,9 @@ use crate::formulas::AND;
 use crate::formulas::NO_NAME;
 use crate::formulas::OR;
 use crate::formulas::XOR;
-use crate::formulas::part;
 use graph::Arc;
 use graph::CheckedGraph;
+use graph::part;
 
 // The byte of `=`.
 const SAME: usize = 61;

@@ -6,11 +6,11 @@ ghost use Rattle.builder.specs.Adding.{Room};
 ghost use Rattle.builder.specs.Edges.{namesIn, edgeIn, edgesIn, ArcGood, GraphGood, edgeOf, edgesOf, EdgeMade, EdgesMade, two};
 ghost use Rattle.circuit.specs.Build.{edgePiece};
 use crate::Both;
-use crate::formulas::part;
 use crate::formulas::put_formula;
 use crate::tokens::put_tokens;
 use graph::Arc;
 use graph::CheckedGraph;
+use graph::part;
 
 // The gates of an edge whose from-vertex has these literals.
 fn put_edge(

@@ -15,6 +15,7 @@ use crate::Made;
 use crate::gates::inverse;
 use crate::gates::literal;
 use crate::gates::put_gate;
+use graph::part;
 
 // A word of a formula below this is a name: its first place and its length.
 pub(crate) const NO_NAME: usize = 4096;
@@ -39,20 +40,6 @@ const FIRST_NAME: usize = 2;
 
 // Two literals at the bottom that no word takes, and one for each word.
 const DEEPEST_STACK: usize = 257;
-
-// At most n bytes from `at` on.
-pub(crate) fn part(s: &[u8], at: usize, n: usize) -> &[u8]
-    ensures { λ r. ⌜ now r ≡ take n (drop at (now (s .entry))) ⌝ }
-{
-    if s.len() <= at {
-        return &s[..0];
-    }
-    if n <= s.len() - at {
-        let e = at + n;
-        return &s[at..e];
-    }
-    &s[at..]
-}
 
 // The literal of the name that a word gives.
 fn name_literal(text: &[u8], starts: &[usize], total: usize, field: &[u8], w: usize) -> u16

@@ -19,6 +19,7 @@ mod records;
 mod shapes;
 
 pub use names::look_up;
+pub use pieces::part;
 
 // A graph text has at most so many bytes.
 const LONGEST_TEXT: usize = 32768;

@@ -32,7 +32,7 @@ pub(crate) fn piece(s: &[u8], at: usize, b: u8) -> &[u8]
 }
 
 // At most n bytes from `at` on.
-pub(crate) fn part(s: &[u8], at: usize, n: usize) -> &[u8]
+pub fn part(s: &[u8], at: usize, n: usize) -> &[u8]
     ensures { λ r. ⌜ now r ≡ take n (drop at (now (s .entry))) ⌝ }
 {
     if s.len() <= at {

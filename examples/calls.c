@@ -1,0 +1,63 @@
+/* Ludopoplar from C: builds the monitor of a small graph, writes its AIGER file and reads it back, runs a
+   trace on it, and shows a refusal. At the repository's root:
+
+     cc -std=c99 -Iinclude -o calls examples/calls.c target/staticlib/libexports.a && ./calls */
+#include <inttypes.h>
+#include <stdio.h>
+#include <string.h>
+
+#include "ludopoplar.h"
+
+/* in a cycle of init, if p holds then q must hold */
+static const char graph[] = "S\tp\nS\tq\nV\ta\nV\tb\nE\ta\tb\tt\tp\tq\n";
+
+/* a cycle a line: init, p, q */
+static const char trace[] = "110\n111\n010\n";
+
+/* buffers that are long enough for every netlist, and verdicts for this trace */
+static uint16_t made[8194], net[8194];
+static uint8_t file[65536], verdicts[3];
+static uint64_t latches[4094], values[4096];
+
+#define LENGTH(array) (sizeof(array) / sizeof(array)[0])
+
+/* Whether a call was accepted; says so where it was not. */
+static int accepted(const char *call, uint64_t code) {
+    if (code != 0)
+        printf("%s refused: number %" PRIu32 ", line %" PRIu32 "\n", call, LUDO_NUMBER(code), LUDO_LINE(code));
+    return code == 0;
+}
+
+static const uint8_t *bytes(const char *text) { return (const uint8_t *)text; }
+
+int main(void) {
+    uint64_t gates = 0, length = 0, numbers = 0, verdict = 0;
+    uint32_t cycles = 0, rejected = 0;
+    size_t i;
+
+    if (!accepted("build", ludo_build(bytes(graph), strlen(graph), made, LENGTH(made), &gates)))
+        return 1;
+    printf("gates %" PRIu64 "\n", gates);
+
+    if (!accepted("write", ludo_write(made, LENGTH(made), file, LENGTH(file), &length)))
+        return 1;
+    fwrite(file, 1, (size_t)length, stdout);
+
+    if (!accepted("read", ludo_read(file, (size_t)length, net, LENGTH(net), &numbers)))
+        return 1;
+    printf("numbers %" PRIu64 ", %s\n", numbers, memcmp(net, made, sizeof net) == 0 ? "as built" : "not as built");
+
+    if (!accepted("start", ludo_start(net, (size_t)numbers, latches, LENGTH(latches), &cycles, &rejected)))
+        return 1;
+    if (!accepted("run", ludo_run(net, (size_t)numbers, bytes(trace), strlen(trace), latches, LENGTH(latches),
+                                  values, LENGTH(values), verdicts, LENGTH(verdicts), &cycles, &rejected, &verdict)))
+        return 1;
+    printf("verdicts");
+    for (i = 0; i < LENGTH(verdicts); i++)
+        printf(" %d", verdicts[i]);
+    printf("\ncycles %" PRIu32 ", rejected %" PRIu32 ", %s\n", cycles, rejected, verdict == 0 ? "accepted" : "rejected");
+
+    /* a vertex without a name */
+    accepted("build", ludo_build(bytes("V\n"), 2, made, LENGTH(made), &gates));
+    return 0;
+}

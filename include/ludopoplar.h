@@ -1,0 +1,107 @@
+/* Ludopoplar: monitor circuits of assertion graphs. Builds the circuit of a graph text, writes and reads
+   circuits as AIGER files, and runs them cycle by cycle.
+
+   Link with libexports.a (x86-64 Linux). It needs memcpy and memset of the C library and nothing else.
+
+   Memory
+     The library keeps nothing, allocates nothing and has no state: all memory is the caller's, and is used
+     only during the call. Calls on different memory may run in different threads.
+     Every length is a number of elements, not of bytes. Each pointer must be non-null and aligned for its
+     type, also where its length is 0. Buffers and result pointers of one call must not overlap.
+     The tally and what is lent to be read must be initialised; buffers that are only filled need not be.
+     A call fills a buffer from its start; where the buffer is longer than needed, the rest stays as it was.
+     ludo_build takes up to 200 KB of stack, for deep formulas; the other calls take under 4 KB.
+
+   Return code
+     0 where the call is accepted. Else the call is refused, and the code is number * 2^32 + line, which
+     LUDO_NUMBER and LUDO_LINE take apart. A refusal leaves every buffer, tally and result as it was.
+
+      number  line   cause
+        1     0      text too long: graph over 32,768 bytes, AIGER over 65,536, trace over 1,048,576
+        2     its    graph: line of no record's shape, or last line without LF
+        3     its    graph: kind of record out of order
+        4     its    graph: one record too many
+        5     its    graph: name repeated
+        6     its    graph: edge to or from an unknown vertex
+        7     its    graph: formula of wrong form or length
+        8     its    graph: formula more than 16 deep
+        9     its    graph: unknown name in a formula
+       10     0      graph: no vertex
+       11     0      graph: its netlist would have more than 4,095 variables
+       12     0      a buffer is too short
+       13     its    AIGER: line of wrong shape, missing or extra
+       14     its    AIGER: line of right shape that breaks order or limits
+       15     its    trace: wrong line; a step's cycle is line 1
+       16     0      the numbers are no netlist
+       17     0      the tally would pass 4,294,967,295
+
+     Lines count from 1; the first faulty line decides, and in it the lower number. Build checks 1, the lines,
+     10, 11, 12; read 1, the lines, 12; write and start 16, 12; step 16, 15, 12, 17; run 1, then as step.
+
+   Netlist: uint16_t numbers, 5 + 2L + 1 + 2A of them, at most 8,194
+     M I L O A               highest variable, inputs, latches, outputs, AND gates
+     next reset              L times; reset is 0, 1 or the latch's own literal (uninitialised)
+     output                  once
+     r0 r1                   A times, the operands of each gate
+     Variable 0 is false; 1 to I are the inputs, then the latches, then the gates. Variable v has the literal
+     2v, and 2v + 1 for its inverse. A gate's literal g has g > r0 >= r1; next and output are at most 2M + 1.
+     Limits: M = I + L + A <= 4,095; 1 <= I <= 64; O = 1; at most 6 uninitialised latches.
+     Numbers that stand after a netlist in a lent buffer are not looked at.
+
+   Words: a simulated variable is a uint64_t, with one bit, a lane, for each setting of the uninitialised
+   latches: the j-th of them, from 0, starts in lane n as bit j of n. */
+
+#ifndef LUDOPOPLAR_H
+#define LUDOPOPLAR_H
+
+#include <stddef.h>
+#include <stdint.h>
+
+#ifdef __cplusplus
+extern "C" {
+#endif
+
+/* The number and the line of a refusal, from the code that a call returned. */
+#define LUDO_NUMBER(code) ((uint32_t)((uint64_t)(code) >> 32))
+#define LUDO_LINE(code) ((uint32_t)((uint64_t)(code) & 0xffffffffu))
+
+/* Builds the netlist of a graph text into `net`; `*gates` is the number A of its gates.
+
+   The text has one record a line, each ended by LF, its fields parted by one tab, kinds in this order:
+     S name                                       signal, 0 to 63
+     K name                                       constant bit, 0 to 6
+     V name                                       vertex, 1 to 64; the first is the start
+     E from to mark antecedent consequent         edge, 0 to 128; mark t (terminal) or -
+   A name is a letter, then letters, digits or _, 1 to 15 bytes. A formula is 1 to 255 bytes without blanks:
+   names, 0, 1, ( ), and ! & ^ | = from tightest to loosest. Input 1 of the netlist is init, then come the
+   signals; each constant bit is an uninitialised latch. */
+uint64_t ludo_build(const uint8_t *graph, size_t graph_len, uint16_t *net, size_t net_len, uint64_t *gates);
+
+/* Writes the AIGER ASCII file of a netlist into `text`; `*length` is its number of bytes, at most 65,536. */
+uint64_t ludo_write(const uint16_t *net, size_t net_len, uint8_t *text, size_t text_len, uint64_t *length);
+
+/* Reads the AIGER ASCII file `text` into `net`; `*length` is the number of numbers of its netlist. */
+uint64_t ludo_read(const uint8_t *text, size_t text_len, uint16_t *net, size_t net_len, uint64_t *length);
+
+/* Begins a run of a netlist: fills the first L words of `latches` and sets the tally, `*cycles` and
+   `*rejected`, to 0. */
+uint64_t ludo_start(const uint16_t *net, size_t net_len, uint64_t *latches, size_t latches_len, uint32_t *cycles, uint32_t *rejected);
+
+/* Runs one cycle. `cycle` is exactly I bytes, '0' or '1', one for each input. Moves the L words of `latches`,
+   fills the first M + 1 words of `values` with the words of the variables, adds the cycle to the tally, and
+   puts the output word into `*word`. The cycle is rejected if a bit of that word is 0. */
+uint64_t ludo_step(const uint16_t *net, size_t net_len, const uint8_t *cycle, size_t cycle_len, uint64_t *latches, size_t latches_len,
+                   uint64_t *values, size_t values_len, uint32_t *cycles, uint32_t *rejected, uint64_t *word);
+
+/* Runs a trace: lines of I bytes, '0' or '1', each ended by LF; it may be empty. Does what ludo_step does for
+   each line, and writes one byte a line into `verdicts`, 1 rejected or 0 accepted. `values` holds the words of
+   the last cycle, or stays as it was where the trace is empty; its M + 1 words must be lent even then.
+   `*verdict` is 0, accepted, where the last cycle was accepted or there was none; else 1, rejected. */
+uint64_t ludo_run(const uint16_t *net, size_t net_len, const uint8_t *trace, size_t trace_len, uint64_t *latches, size_t latches_len,
+                  uint64_t *values, size_t values_len, uint8_t *verdicts, size_t verdicts_len, uint32_t *cycles, uint32_t *rejected, uint64_t *verdict);
+
+#ifdef __cplusplus
+}
+#endif
+
+#endif

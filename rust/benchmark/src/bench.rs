@@ -1,0 +1,96 @@
+//! One netlist with all that the calls on it are lent, and timing.
+
+use crate::c_loop::processor_seconds;
+
+/// What start, step and run are lent beside the netlist.
+#[derive(Clone, Debug, PartialEq)]
+pub struct Words {
+    pub latches: Vec<u64>,
+    pub values: Vec<u64>,
+    pub verdicts: Vec<u8>,
+    pub cycles: u32,
+    pub rejected: u32,
+}
+
+/// A graph, its netlist, its AIGER text and a trace for it.
+pub struct Bench {
+    pub graph: Vec<u8>,
+    pub net: Vec<u16>,
+    pub text: Vec<u8>,
+    pub trace: Vec<u8>,
+}
+
+impl Bench {
+    /// Made by the library, and checked to be what the reference makes.
+    pub fn new(graph: String, trace: Vec<u8>) -> Bench {
+        let graph = graph.into_bytes();
+        let mut net = vec![0; 8_196];
+        let gates = ludopoplar::build(&graph, &mut net).expect("an accepted graph");
+        let mut text = vec![0; 65_536];
+        let length = ludopoplar::write(&net, &mut text).expect("a netlist");
+        text.truncate(length);
+        let mut back = vec![0; 8_196];
+        let numbers = ludopoplar::read(&text, &mut back).expect("a netlist's text");
+        net.truncate(numbers);
+        assert_eq!(net, back[..numbers], "read gives other numbers");
+        let bench = Bench {
+            graph,
+            net,
+            text,
+            trace,
+        };
+        bench.check_reference(gates);
+        bench
+    }
+
+    fn check_reference(&self, gates: u64) {
+        let (mut net, mut text) = (vec![0; self.net.len()], vec![0; self.text.len()]);
+        let made = reference::build(&self.graph, &mut net).expect("an accepted graph");
+        assert_eq!((made as u64, &net), (gates, &self.net), "the builds differ");
+        reference::write(&net, &mut text).expect("a netlist");
+        assert_eq!(text, self.text, "the texts differ");
+        net.fill(0);
+        reference::read(&text, &mut net).expect("a netlist's text");
+        assert_eq!(net, self.net, "the readers differ");
+    }
+
+    pub fn inputs(&self) -> usize {
+        usize::from(self.net[1])
+    }
+
+    pub fn gates(&self) -> usize {
+        usize::from(self.net[4])
+    }
+
+    pub fn cycles(&self) -> usize {
+        self.trace.len() / (self.inputs() + 1)
+    }
+
+    /// Started words, as long as the netlist and the trace need.
+    pub fn words(&self) -> Words {
+        let mut tally = ludopoplar::Tally::default();
+        let mut latches = vec![0; usize::from(self.net[2])];
+        ludopoplar::start(&self.net, &mut latches, &mut tally).expect("a netlist");
+        Words {
+            latches,
+            values: vec![0; usize::from(self.net[0]) + 1],
+            verdicts: vec![0; self.cycles()],
+            cycles: tally.cycles,
+            rejected: tally.rejected,
+        }
+    }
+}
+
+/// Processor seconds of each piece of work in the best of so many repetitions.
+/// The pieces take turns, so that a busy machine slows all of them alike.
+pub fn best<const N: usize>(repetitions: usize, mut work: [&mut dyn FnMut(); N]) -> [f64; N] {
+    let mut least = [f64::INFINITY; N];
+    for _ in 0..repetitions {
+        for (piece, least) in work.iter_mut().zip(&mut least) {
+            let begun = processor_seconds();
+            piece();
+            *least = least.min(processor_seconds() - begun);
+        }
+    }
+    least
+}

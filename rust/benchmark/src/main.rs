@@ -1,0 +1,215 @@
+//! Measures the proved library beside the reference and, for `run`, a C loop.
+//! The results of all of them are compared before anything is timed.
+
+mod bench;
+mod c_loop;
+mod calls;
+mod graphs;
+mod traces;
+
+use bench::{best, Bench, Words};
+use std::fmt::Debug;
+use std::hint::black_box;
+
+const RUNS: usize = 7;
+/// Repetitions of `build`, `read`, `write`, and of a row of steps.
+const SHORT_CALLS: usize = 300;
+/// Cycles in a row of steps.
+const STEPS: usize = 100;
+
+fn main() {
+    println!(
+        "Processor time, best of {RUNS} repetitions for run, of {SHORT_CALLS} for the others."
+    );
+    println!("A ratio is another implementation's time over the library's: above 1 the");
+    println!("library is faster.");
+    report(
+        "stroke buffer of 40 places",
+        &Bench::new(graphs::stroke_buffer(40), traces::longest(40, false)),
+    );
+    report(
+        "stroke buffer of 8 places and its content, with six constants",
+        &Bench::new(graphs::stroke_content(8), traces::longest(8, true)),
+    );
+    report_build_by_size();
+}
+
+fn report(name: &str, bench: &Bench) {
+    let [_, inputs, latches, _, gates] = bench.net[..5] else {
+        unreachable!("a netlist has a header");
+    };
+    println!("\n{name}: {inputs} inputs, {latches} latches, {gates} gates");
+    report_run(bench);
+    report_step(bench);
+    report_build(bench);
+    report_read(bench);
+    report_write(bench);
+}
+
+/// Runs over the longest trace, each going on where the one before ended.
+fn report_run(bench: &Bench) {
+    let (net, trace) = (&bench.net, &bench.trace);
+    let (mut by_library, mut by_reference, mut by_c) =
+        (bench.words(), bench.words(), bench.words());
+    for _ in 0..2 {
+        calls::run_by_library(net, trace, &mut by_library);
+        calls::run_by_reference(net, trace, &mut by_reference);
+        c_loop::run(net, trace, &mut by_c);
+        check_alike(&by_library, &[&by_reference, &by_c]);
+    }
+    println!(
+        "  trace of {} cycles, {} rejected",
+        bench.cycles(),
+        rejected(&by_library)
+    );
+    let [library, reference, c] = best(
+        RUNS,
+        [
+            &mut || calls::run_by_library(net, trace, &mut by_library),
+            &mut || calls::run_by_reference(net, trace, &mut by_reference),
+            &mut || c_loop::run(net, trace, &mut by_c),
+        ],
+    );
+    check_alike(&by_library, &[&by_reference, &by_c]);
+    println!(
+        "  run    {}, {}, {}, {}; reference {}, gcc -O3 loop {}",
+        duration(library),
+        rate(bench.cycles(), library, "cycles"),
+        rate(bench.cycles() * bench.gates(), library, "gates"),
+        megabytes(trace.len(), library),
+        ratio(reference, library),
+        ratio(c, library),
+    );
+}
+
+fn check_alike(library: &Words, others: &[&Words]) {
+    for other in others {
+        assert!(library == *other, "another implementation's results differ");
+    }
+}
+
+fn rejected(words: &Words) -> usize {
+    words.verdicts.iter().filter(|byte| **byte == 1).count()
+}
+
+fn report_step(bench: &Bench) {
+    let net = &bench.net;
+    let cycles: Vec<&[u8]> = bench
+        .trace
+        .chunks_exact(bench.inputs() + 1)
+        .map(|line| &line[..bench.inputs()])
+        .take(STEPS)
+        .collect();
+    let (mut by_library, mut by_reference) = (bench.words(), bench.words());
+    let mut word = calls::steps_by_library(net, &cycles, &mut by_library);
+    let mut due = calls::steps_by_reference(net, &cycles, &mut by_reference);
+    assert_eq!(word, due, "the output words differ");
+    let [library, reference] = best(
+        SHORT_CALLS,
+        [
+            &mut || word = calls::steps_by_library(net, &cycles, &mut by_library),
+            &mut || due = calls::steps_by_reference(net, &cycles, &mut by_reference),
+        ],
+    );
+    assert_eq!(word, due, "the output words differ");
+    check_alike(&by_library, &[&by_reference]);
+    println!(
+        "  step   {}, {}, {}; reference {}",
+        duration(library / cycles.len() as f64),
+        rate(cycles.len(), library, "cycles"),
+        rate(cycles.len() * bench.gates(), library, "gates"),
+        ratio(reference, library),
+    );
+}
+
+fn report_build(bench: &Bench) {
+    let (mut net, mut other) = (bench.net.clone(), bench.net.clone());
+    let times = best(
+        SHORT_CALLS,
+        [
+            &mut || accepted(ludopoplar::build(&bench.graph, &mut net)),
+            &mut || accepted(reference::build(&bench.graph, &mut other)),
+        ],
+    );
+    report_text_call("build", bench.gates(), bench.graph.len(), times);
+}
+
+fn report_read(bench: &Bench) {
+    let (mut net, mut other) = (bench.net.clone(), bench.net.clone());
+    let times = best(
+        SHORT_CALLS,
+        [
+            &mut || accepted(ludopoplar::read(&bench.text, &mut net)),
+            &mut || accepted(reference::read(&bench.text, &mut other)),
+        ],
+    );
+    report_text_call("read", bench.gates(), bench.text.len(), times);
+}
+
+fn report_write(bench: &Bench) {
+    let (mut text, mut other) = (bench.text.clone(), bench.text.clone());
+    let times = best(
+        SHORT_CALLS,
+        [
+            &mut || accepted(ludopoplar::write(&bench.net, &mut text)),
+            &mut || accepted(reference::write(&bench.net, &mut other)),
+        ],
+    );
+    report_text_call("write", bench.gates(), bench.text.len(), times);
+}
+
+fn report_text_call(name: &str, gates: usize, bytes: usize, [library, reference]: [f64; 2]) {
+    println!(
+        "  {name:5}  {}, {}, {}; reference {}",
+        duration(library),
+        rate(gates, library, "gates"),
+        megabytes(bytes, library),
+        ratio(reference, library),
+    );
+}
+
+/// The time for each gate stays about the same where build is linear.
+fn report_build_by_size() {
+    println!("\nbuild of the stroke buffer by its places");
+    let mut net = vec![0; 8_196];
+    for places in [5, 10, 20, 40] {
+        let graph = graphs::stroke_buffer(places).into_bytes();
+        let gates = ludopoplar::build(&graph, &mut net).expect("an accepted graph");
+        let build = &mut || accepted(ludopoplar::build(&graph, &mut net));
+        let [seconds] = best(SHORT_CALLS, [build]);
+        println!(
+            "  {places:2} places: {gates:4} gates, {}, {:.1} ns a gate",
+            duration(seconds),
+            1e9 * seconds / gates as f64,
+        );
+    }
+}
+
+/// Lets no part of a timed call be left out as unused.
+fn accepted<T, Refusal: Debug>(answer: Result<T, Refusal>) {
+    black_box(answer.expect("an accepted call"));
+}
+
+fn duration(seconds: f64) -> String {
+    match seconds {
+        long if long >= 0.1 => format!("{long:.3} s"),
+        short if short >= 1e-3 => format!("{:.3} ms", 1e3 * short),
+        shorter => format!("{:.2} µs", 1e6 * shorter),
+    }
+}
+
+fn rate(count: usize, seconds: f64, what: &str) -> String {
+    let each_second = count as f64 / seconds;
+    match each_second {
+        many if many >= 1e6 => format!("{:.1} M {what}/s", many / 1e6),
+        few => format!("{:.1} k {what}/s", few / 1e3),
+    }
+}
+
+fn megabytes(bytes: usize, seconds: f64) -> String {
+    format!("{:.2} MB/s", bytes as f64 / seconds / 1e6)
+}
+
+fn ratio(other: f64, library: f64) -> String {
+    format!("{:.2}x", other / library)
+}

@@ -1,0 +1,99 @@
+//! AIGER texts: written ones and damaged ones.
+
+use crate::damage::{change_fields, damage};
+use crate::netlists;
+use crate::random::Random;
+
+const MAX_AIGER_BYTES: usize = 65_536;
+const MEANINGFUL: &[u8] = b"0123456789 \n\raigc-+\t\0\xff";
+
+/// An AIGER text of any kind.
+pub fn any(random: &mut Random) -> Vec<u8> {
+    let mut text = written(random);
+    explicit_resets(random, &mut text);
+    match random.below(4) {
+        0 => (),
+        1 if random.once_in(20) => near_size_limit(random, &mut text),
+        _ => {
+            for _ in 0..random.within(1..=2) {
+                match random.coin() {
+                    true => damage(random, &mut text, MEANINGFUL),
+                    false => change_number(random, &mut text),
+                }
+            }
+        }
+    }
+    text
+}
+
+fn written(random: &mut Random) -> Vec<u8> {
+    let net = netlists::valid(random);
+    let mut text = vec![0; MAX_AIGER_BYTES];
+    let length = reference::write(&net, &mut text).expect("a netlist and room for its text");
+    text.truncate(length);
+    text
+}
+
+/// Writes a reset 0 out at some latches, as the reader also takes it; sometimes
+/// at a line that is no latch's.
+fn explicit_resets(random: &mut Random, text: &mut Vec<u8>) {
+    for _ in 0..random.below(3) {
+        change_fields(random, text, b' ', |_, fields| {
+            if fields.len() == 2 {
+                fields.push(b"0".to_vec());
+            }
+        });
+    }
+}
+
+fn change_number(random: &mut Random, text: &mut Vec<u8>) {
+    if random.once_in(6) {
+        return change_header(random, text);
+    }
+    change_fields(random, text, b' ', |random, fields| {
+        let field = random.below(fields.len());
+        match random.below(8) {
+            0 => drop(fields.remove(field)),
+            1 => fields.insert(field, fields[field].clone()),
+            2 => fields[field].insert(0, b'0'),
+            3 => fields[field].insert(0, b' '),
+            _ => fields[field] = other_number(random, &fields[field]),
+        }
+    });
+}
+
+/// Changes a count of the header alone, or two of them against each other.
+fn change_header(random: &mut Random, text: &mut Vec<u8>) {
+    let end = text.iter().position(|byte| *byte == b'\n');
+    let rest = text.split_off(end.unwrap_or(text.len()));
+    let mut fields: Vec<Vec<u8>> = text
+        .split(|byte| *byte == b' ')
+        .map(<[u8]>::to_vec)
+        .collect();
+    for _ in 0..random.within(1..=2) {
+        let field = random.below(fields.len());
+        fields[field] = other_number(random, &fields[field]);
+    }
+    *text = [fields.join(&b' '), rest].concat();
+}
+
+fn other_number(random: &mut Random, field: &[u8]) -> Vec<u8> {
+    let number: u64 = String::from_utf8_lossy(field).parse().unwrap_or(7);
+    match random.below(6) {
+        0 => number + 1,
+        1 => number.saturating_sub(1),
+        2 => random.below(8_300) as u64,
+        3 => number + random.pick(&[65_536, 90_000, 100_000]),
+        _ => random.pick(&[
+            0, 1, 64, 65, 4_095, 4_096, 8_192, 65_535, 65_536, 99_999, 100_000,
+        ]),
+    }
+    .to_string()
+    .into_bytes()
+}
+
+/// Fills the text up to the limit, or one byte over it.
+fn near_size_limit(random: &mut Random, text: &mut Vec<u8>) {
+    let size = random.within(MAX_AIGER_BYTES - 1..=MAX_AIGER_BYTES + 1);
+    text.resize(size, b'\n');
+}

@@ -1,0 +1,230 @@
+//! The cases: one call, or a list of calls on one netlist.
+
+use crate::compare::{compare, Call, Lengths, Memory, Mismatch, Name, Outcome};
+use crate::coverage::Coverage;
+use crate::random::Random;
+use crate::{aigers, graphs, netlists, sequence, traces};
+use reference::{formula_of_gates, Graph, Netlist, Tally};
+
+/// What a case draws from and what it reports to.
+pub struct Bench<'a> {
+    pub random: Random,
+    pub coverage: &'a mut Coverage,
+}
+
+impl Bench<'_> {
+    pub fn compare(&mut self, call: &Call, memory: Memory) -> Result<Outcome, Mismatch> {
+        let outcome = compare(call, memory)?;
+        self.coverage.record(call.name, &outcome);
+        Ok(outcome)
+    }
+
+    /// A length for a buffer that needs this one: enough, just enough or too short.
+    pub fn length(&mut self, needed: usize) -> usize {
+        match self.random.below(16) {
+            0 => needed.saturating_sub(1),
+            1 if self.random.coin() => self.random.within(0..=needed),
+            2..=6 => needed,
+            _ => needed + self.random.below(20),
+        }
+    }
+}
+
+pub fn case(bench: &mut Bench) -> Result<(), Mismatch> {
+    match bench.random.below(20) {
+        0..=6 => build(bench),
+        7..=10 => read(bench),
+        11..=12 => write(bench),
+        13 => start(bench),
+        14..=15 => step(bench),
+        16..=17 => run(bench),
+        _ => sequence::sequence(bench),
+    }
+}
+
+fn build(bench: &mut Bench) -> Result<(), Mismatch> {
+    let graph = graphs::any(&mut bench.random);
+    let needed = netlists::net_of(&graph).map_or(bench.random.below(3_000), |net| net.len());
+    let lengths = Lengths {
+        net: bench.length(needed),
+        ..Lengths::default()
+    };
+    let memory = Memory::random(&mut bench.random, lengths);
+    let call = Call::on_bytes(Name::Build, graph);
+    let outcome = bench.compare(&call, memory)?;
+    if outcome.is_accepted() {
+        check_gates(&call.bytes, outcome.memory.answer)?;
+    }
+    Ok(())
+}
+
+/// "The number of gates built is exactly what document 01's formula says, never
+/// above 10 × edges + 3 × operators"; here without the operator `!`.
+fn check_gates(text: &[u8], gates: u64) -> Result<(), Mismatch> {
+    let graph = Graph::parse(text).expect("an accepted graph");
+    let operators = text.iter().filter(|byte| b"&|^=".contains(byte)).count();
+    let bound = 10 * graph.edges.len() + 3 * operators;
+    let due = formula_of_gates(&graph);
+    if gates == due as u64 && due <= bound {
+        return Ok(());
+    }
+    let text = text.escape_ascii();
+    Err(Mismatch(format!(
+        "call: Build\ngraph: \"{text}\"\n{gates} gates, by the formula {due}, at most {bound}\n"
+    )))
+}
+
+fn read(bench: &mut Bench) -> Result<(), Mismatch> {
+    let text = aigers::any(&mut bench.random);
+    let mut scratch = vec![0; netlists::MOST_NUMBERS];
+    let needed = reference::read(&text, &mut scratch).unwrap_or(bench.random.below(3_000));
+    let lengths = Lengths {
+        net: bench.length(needed),
+        ..Lengths::default()
+    };
+    let memory = Memory::random(&mut bench.random, lengths);
+    bench.compare(&Call::on_bytes(Name::Read, text), memory)?;
+    Ok(())
+}
+
+fn write(bench: &mut Bench) -> Result<(), Mismatch> {
+    let net = netlists::any(&mut bench.random);
+    write_and_read_back(bench, net)
+}
+
+/// Writes the numbers; if they are written, reading the text gives them back.
+pub fn write_and_read_back(bench: &mut Bench, net: Vec<u16>) -> Result<(), Mismatch> {
+    let mut scratch = vec![0; 65_536];
+    let needed = reference::write(&net, &mut scratch).unwrap_or(bench.random.below(3_000));
+    let lengths = Lengths {
+        text: bench.length(needed),
+        ..Lengths::default()
+    };
+    let memory = Memory::random(&mut bench.random, lengths);
+    let call = Call::on_net(Name::Write, net, Vec::new());
+    let written = bench.compare(&call, memory)?;
+    if written.is_accepted() {
+        let text = &written.memory.text.get()[..written.memory.answer as usize];
+        read_back(bench, &call.net, text)?;
+    }
+    Ok(())
+}
+
+fn read_back(bench: &mut Bench, net: &[u16], text: &[u8]) -> Result<(), Mismatch> {
+    let lengths = Lengths {
+        net: net.len(),
+        ..Lengths::default()
+    };
+    let memory = Memory::random(&mut bench.random, lengths);
+    let call = Call::on_bytes(Name::Read, text.to_vec());
+    let read = bench.compare(&call, memory)?;
+    let count = read.memory.answer as usize;
+    if !read.is_accepted() || count > net.len() || read.memory.net.get()[..count] != net[..count] {
+        let text = text.escape_ascii();
+        return Err(Mismatch(format!(
+            "write, then read gives other numbers\nnumbers: {net:?}\ntext: \"{text}\"\n"
+        )));
+    }
+    bench.coverage.read_back += 1;
+    Ok(())
+}
+
+/// The lengths that the calls on a netlist need; some small ones if it is none.
+fn needs(bench: &mut Bench, net: &[u16], cycles: usize) -> Lengths {
+    let (latches, values) = match Netlist::from_numbers(net) {
+        Some(netlist) => (netlist.latches.len(), netlist.header.variables as usize + 1),
+        None => (bench.random.below(10), bench.random.below(30)),
+    };
+    Lengths {
+        latches,
+        values,
+        verdicts: cycles,
+        ..Lengths::default()
+    }
+}
+
+/// Memory for a call on a netlist, lengths and tally random.
+fn memory(bench: &mut Bench, net: &[u16], cycles: usize) -> Memory {
+    let needs = needs(bench, net, cycles);
+    let lengths = Lengths {
+        latches: bench.length(needs.latches),
+        values: bench.length(needs.values),
+        verdicts: bench.length(needs.verdicts),
+        ..needs
+    };
+    let mut memory = Memory::random(&mut bench.random, lengths);
+    memory.tally = tally(&mut bench.random, cycles);
+    memory
+}
+
+/// Any counts, also such as the caller alone could have put there, and such as
+/// leave just room for the new cycles or just none.
+fn tally(random: &mut Random, new_cycles: usize) -> Tally {
+    let mut count = || match random.below(8) {
+        0 => u32::MAX - random.below(new_cycles + 3) as u32,
+        1 => (u32::MAX - new_cycles as u32).saturating_add(random.below(2) as u32),
+        2 => random.word() as u32,
+        _ => random.below(1_000) as u32,
+    };
+    Tally {
+        cycles: count(),
+        rejected: count(),
+    }
+}
+
+/// The count of inputs that a netlist's numbers speak of; some other if none.
+fn inputs_of(random: &mut Random, net: &[u16]) -> usize {
+    match net.get(1) {
+        Some(inputs) if (1..=64).contains(inputs) => usize::from(*inputs),
+        _ => random.within(1..=64),
+    }
+}
+
+fn start(bench: &mut Bench) -> Result<(), Mismatch> {
+    let net = netlists::any(&mut bench.random);
+    let memory = memory(bench, &net, 0);
+    bench.compare(&Call::on_net(Name::Start, net, Vec::new()), memory)?;
+    Ok(())
+}
+
+fn step(bench: &mut Bench) -> Result<(), Mismatch> {
+    let net = netlists::any(&mut bench.random);
+    let inputs = inputs_of(&mut bench.random, &net);
+    let cycle = traces::any_cycle(&mut bench.random, inputs);
+    let memory = memory(bench, &net, 1);
+    bench.compare(&Call::on_net(Name::Step, net, cycle), memory)?;
+    Ok(())
+}
+
+fn run(bench: &mut Bench) -> Result<(), Mismatch> {
+    let random = &mut bench.random;
+    let (net, trace) = match random.below(80) {
+        0 => long_run(random),
+        _ => short_run(random),
+    };
+    let lines = trace.iter().filter(|byte| **byte == b'\n').count();
+    let memory = memory(bench, &net, lines);
+    bench.compare(&Call::on_net(Name::Run, net, trace), memory)?;
+    Ok(())
+}
+
+fn short_run(random: &mut Random) -> (Vec<u16>, Vec<u8>) {
+    let net = netlists::any(random);
+    let inputs = inputs_of(random, &net);
+    let cycles = match random.below(8) {
+        0 => 0,
+        1 => random.within(0..=300),
+        _ => random.within(1..=12),
+    };
+    let trace = traces::any_trace(random, inputs, cycles);
+    (net, trace)
+}
+
+/// A trace about the limit, over a netlist small enough for it.
+fn long_run(random: &mut Random) -> (Vec<u16>, Vec<u8>) {
+    let inputs = random.pick(&[1, 2, 3, 7, 15, 31, 63, 64]);
+    let others = random.within(0..=20);
+    let net = netlists::with_inputs(random, inputs, others);
+    let trace = traces::near_size_limit(random, inputs);
+    (net, trace)
+}

@@ -1,0 +1,257 @@
+//! One call by the library and by the reference, and what differs between them.
+
+use crate::random::Random;
+use ludopoplar::raw;
+use reference::{Refusal, Tally, Verdict};
+use std::fmt::{Debug, Write as _};
+
+#[derive(Clone, Copy, Debug, PartialEq, Eq, PartialOrd, Ord)]
+pub enum Name {
+    Build,
+    Read,
+    Write,
+    Start,
+    Step,
+    Run,
+}
+
+/// A call with what it reads: `bytes` is a graph, an AIGER text, a cycle or a trace.
+#[derive(Clone, PartialEq)]
+pub struct Call {
+    pub name: Name,
+    pub net: Vec<u16>,
+    pub bytes: Vec<u8>,
+}
+
+impl Call {
+    pub fn on_bytes(name: Name, bytes: Vec<u8>) -> Call {
+        let net = Vec::new();
+        Call { name, net, bytes }
+    }
+
+    pub fn on_net(name: Name, net: Vec<u16>, bytes: Vec<u8>) -> Call {
+        Call { name, net, bytes }
+    }
+}
+
+/// A lent buffer with random contents. It lies within a longer one, whose ends
+/// belong to nobody and must stay too.
+#[derive(Clone, PartialEq)]
+pub struct Lent<T> {
+    cells: Vec<T>,
+    length: usize,
+}
+
+const MARGIN: usize = 3;
+
+impl<T: Copy> Lent<T> {
+    fn random(random: &mut Random, length: usize, cell: fn(&mut Random) -> T) -> Self {
+        let cells = (0..length + 2 * MARGIN).map(|_| cell(random)).collect();
+        Lent { cells, length }
+    }
+
+    pub fn get(&self) -> &[T] {
+        &self.cells[MARGIN..MARGIN + self.length]
+    }
+
+    pub fn get_mut(&mut self) -> &mut [T] {
+        &mut self.cells[MARGIN..MARGIN + self.length]
+    }
+}
+
+/// How long the buffers of a call are.
+#[derive(Clone, Copy, Default)]
+pub struct Lengths {
+    pub net: usize,
+    pub text: usize,
+    pub latches: usize,
+    pub values: usize,
+    pub verdicts: usize,
+}
+
+/// All that a call may write.
+#[derive(Clone, PartialEq)]
+pub struct Memory {
+    pub net: Lent<u16>,
+    pub text: Lent<u8>,
+    pub latches: Lent<u64>,
+    pub values: Lent<u64>,
+    pub verdicts: Lent<u8>,
+    pub tally: Tally,
+    /// Gates, length, output word or verdict.
+    pub answer: u64,
+}
+
+impl Memory {
+    pub fn random(random: &mut Random, lengths: Lengths) -> Memory {
+        Memory {
+            net: Lent::random(random, lengths.net, |random| random.word() as u16),
+            text: Lent::random(random, lengths.text, Random::byte),
+            latches: Lent::random(random, lengths.latches, Random::word),
+            values: Lent::random(random, lengths.values, Random::word),
+            verdicts: Lent::random(random, lengths.verdicts, Random::byte),
+            tally: Tally {
+                cycles: random.word() as u32,
+                rejected: random.word() as u32,
+            },
+            answer: random.word(),
+        }
+    }
+}
+
+/// What both made of a call.
+pub struct Outcome {
+    /// 0 where it was accepted.
+    pub number: u32,
+    pub memory: Memory,
+}
+
+impl Outcome {
+    pub fn is_accepted(&self) -> bool {
+        self.number == 0
+    }
+}
+
+/// A call of which the two made different things, told for a reader.
+pub struct Mismatch(pub String);
+
+/// Makes the call twice, on memory of equal contents.
+pub fn compare(call: &Call, memory: Memory) -> Result<Outcome, Mismatch> {
+    let mut lent_call = call.clone();
+    let (mut by_library, mut by_reference) = (memory.clone(), memory);
+    let code = library(&mut lent_call, &mut by_library);
+    let due = code_of(reference_call(call, &mut by_reference));
+    let mut differences = String::new();
+    if code != due {
+        let shown = |code: u64| format!("({}, line {})", code >> 32, code as u32);
+        writeln!(differences, "returned {}, due {}", shown(code), shown(due)).unwrap();
+    }
+    if lent_call != *call {
+        writeln!(differences, "what was lent to be read has changed").unwrap();
+    }
+    differences += &memory_differences(&by_library, &by_reference);
+    match differences.is_empty() {
+        true => Ok(Outcome {
+            number: (due >> 32) as u32,
+            memory: by_reference,
+        }),
+        false => Err(Mismatch(told(call, &by_reference, &differences))),
+    }
+}
+
+fn library(call: &mut Call, memory: &mut Memory) -> u64 {
+    let (net, bytes) = (&call.net[..], &call.bytes[..]);
+    let latches = memory.latches.get_mut();
+    let values = memory.values.get_mut();
+    let Tally { cycles, rejected } = &mut memory.tally;
+    let answer = &mut memory.answer;
+    match call.name {
+        Name::Build => raw::build(bytes, memory.net.get_mut(), answer),
+        Name::Read => raw::read(bytes, memory.net.get_mut(), answer),
+        Name::Write => raw::write(net, memory.text.get_mut(), answer),
+        Name::Start => raw::start(net, latches, cycles, rejected),
+        Name::Step => raw::step(net, bytes, latches, values, cycles, rejected, answer),
+        Name::Run => {
+            let verdicts = memory.verdicts.get_mut();
+            raw::run(
+                net, bytes, latches, values, verdicts, cycles, rejected, answer,
+            )
+        }
+    }
+}
+
+fn reference_call(call: &Call, memory: &mut Memory) -> Result<(), Refusal> {
+    let (net, bytes) = (&call.net[..], &call.bytes[..]);
+    let latches = memory.latches.get_mut();
+    let values = memory.values.get_mut();
+    let tally = &mut memory.tally;
+    let answer = match call.name {
+        Name::Build => reference::build(bytes, memory.net.get_mut())? as u64,
+        Name::Read => reference::read(bytes, memory.net.get_mut())? as u64,
+        Name::Write => reference::write(net, memory.text.get_mut())? as u64,
+        Name::Start => return reference::start(net, latches, tally),
+        Name::Step => reference::step(net, bytes, latches, values, tally)?,
+        Name::Run => {
+            let verdicts = memory.verdicts.get_mut();
+            match reference::run(net, bytes, latches, values, verdicts, tally)? {
+                Verdict::Accepted => 0,
+                Verdict::Rejected => 1,
+            }
+        }
+    };
+    memory.answer = answer;
+    Ok(())
+}
+
+fn code_of(answer: Result<(), Refusal>) -> u64 {
+    match answer {
+        Ok(()) => 0,
+        Err(refusal) => u64::from(refusal.number) << 32 | u64::from(refusal.line),
+    }
+}
+
+fn memory_differences(found: &Memory, due: &Memory) -> String {
+    let mut differences = String::new();
+    differences += &buffer_difference("numbers", &found.net, &due.net);
+    differences += &buffer_difference("text", &found.text, &due.text);
+    differences += &buffer_difference("latch words", &found.latches, &due.latches);
+    differences += &buffer_difference("value words", &found.values, &due.values);
+    differences += &buffer_difference("verdicts", &found.verdicts, &due.verdicts);
+    if found.tally != due.tally {
+        writeln!(differences, "{:?}, due {:?}", found.tally, due.tally).unwrap();
+    }
+    if found.answer != due.answer {
+        writeln!(
+            differences,
+            "answer {:#x}, due {:#x}",
+            found.answer, due.answer
+        )
+        .unwrap();
+    }
+    differences
+}
+
+fn buffer_difference<T: PartialEq + Debug>(what: &str, found: &Lent<T>, due: &Lent<T>) -> String {
+    let pairs = || found.cells.iter().zip(&due.cells);
+    let count = pairs().filter(|(found, due)| found != due).count();
+    match pairs().position(|(found, due)| found != due) {
+        None => String::new(),
+        Some(place) => format!(
+            "{what}: {count} differ, first at {} of {}: {:x?}, due {:x?}\n",
+            place as isize - MARGIN as isize,
+            found.length,
+            found.cells[place],
+            due.cells[place],
+        ),
+    }
+}
+
+fn told(call: &Call, memory: &Memory, differences: &str) -> String {
+    format!(
+        "call: {:?}\nnumbers lent: {:?}\nbytes lent ({}): \"{}\"\n\
+         buffer lengths: numbers {}, text {}, latches {}, values {}, verdicts {}\n{}",
+        call.name,
+        call.net,
+        call.bytes.len(),
+        escaped(&call.bytes),
+        memory.net.length,
+        memory.text.length,
+        memory.latches.length,
+        memory.values.length,
+        memory.verdicts.length,
+        differences,
+    )
+}
+
+/// The bytes with unprintable ones escaped; of a very long text the two ends.
+fn escaped(bytes: &[u8]) -> String {
+    const SHOWN: usize = 35_000;
+    match bytes.len() > 2 * SHOWN {
+        false => bytes.escape_ascii().to_string(),
+        true => format!(
+            "{} ... {}",
+            bytes[..SHOWN].escape_ascii(),
+            bytes[bytes.len() - SHOWN..].escape_ascii()
+        ),
+    }
+}

@@ -1,0 +1,71 @@
+//! How often each call was accepted, and refused with each number.
+
+use crate::compare::{Name, Outcome};
+use std::collections::BTreeMap;
+use std::fmt;
+
+/// Every number each call can be refused with.
+const REFUSALS: [(Name, &[u32]); 6] = [
+    (Name::Build, &[1, 2, 3, 4, 5, 6, 7, 8, 9, 10, 11, 12]),
+    (Name::Read, &[1, 12, 13, 14]),
+    (Name::Write, &[12, 16]),
+    (Name::Start, &[12, 16]),
+    (Name::Step, &[12, 15, 16, 17]),
+    (Name::Run, &[1, 12, 15, 16, 17]),
+];
+
+#[derive(Default)]
+pub struct Coverage {
+    /// By call and number, 0 for accepted.
+    met: BTreeMap<(Name, u32), u64>,
+    /// Cycles judged by their paths, and those rejected by one.
+    pub path_cycles: u64,
+    pub path_rejected: u64,
+    /// Netlists written and read back.
+    pub read_back: u64,
+}
+
+impl Coverage {
+    pub fn record(&mut self, name: Name, outcome: &Outcome) {
+        *self.met.entry((name, outcome.number)).or_default() += 1;
+    }
+
+    fn count(&self, name: Name, number: u32) -> u64 {
+        self.met.get(&(name, number)).copied().unwrap_or(0)
+    }
+
+    /// What should have been met and was not.
+    pub fn gaps(&self) -> Vec<String> {
+        let mut gaps = Vec::new();
+        for (name, numbers) in REFUSALS {
+            for number in [&[0], numbers].concat() {
+                if self.count(name, number) == 0 {
+                    gaps.push(format!("{name:?} {number}"));
+                }
+            }
+        }
+        if self.path_rejected == 0 || self.path_rejected == self.path_cycles {
+            gaps.push("paths".into());
+        }
+        gaps
+    }
+}
+
+impl fmt::Display for Coverage {
+    fn fmt(&self, f: &mut fmt::Formatter) -> fmt::Result {
+        for (name, numbers) in REFUSALS {
+            let name_shown = format!("{name:?}").to_lowercase();
+            write!(f, "{name_shown}: accepted {}, refused", self.count(name, 0))?;
+            for number in numbers {
+                write!(f, " {number}:{}", self.count(name, *number))?;
+            }
+            writeln!(f)?;
+        }
+        writeln!(f, "read(write(net)): {} netlists", self.read_back)?;
+        write!(
+            f,
+            "paths: {} cycles, {} of them rejected",
+            self.path_cycles, self.path_rejected
+        )
+    }
+}

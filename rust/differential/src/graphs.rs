@@ -1,0 +1,352 @@
+//! Graph texts: random ones, ones at the limits, and damaged ones.
+
+use crate::damage::{change_fields, damage};
+use crate::random::Random;
+use reference::{formula_of_gates, Graph};
+
+const MAX_GRAPH_BYTES: usize = 32_768;
+const MEANINGFUL: &[u8] = b"SKVEt-\t\n\r01abpq_!&^|=() \0\xff";
+
+/// A graph text of any kind.
+pub fn any(random: &mut Random) -> Vec<u8> {
+    if random.once_in(200) {
+        return near_size_limit(random);
+    }
+    if random.once_in(100) {
+        return near_variable_limit(random);
+    }
+    if random.once_in(100) {
+        return without_vertices(random);
+    }
+    let mut text = undamaged(random);
+    if random.coin() {
+        for _ in 0..random.within(1..=3) {
+            match random.below(3) {
+                0 => damage(random, &mut text, MEANINGFUL),
+                _ => change_record(random, &mut text),
+            }
+        }
+    }
+    text
+}
+
+/// Mostly an accepted graph, of small size.
+pub fn small(random: &mut Random) -> Vec<u8> {
+    Plan::small(random).text(random)
+}
+
+/// Mostly an accepted graph, of any size.
+pub fn undamaged(random: &mut Random) -> Vec<u8> {
+    let plan = match random.below(8) {
+        0..=3 => Plan::small(random),
+        4 | 5 => Plan::medium(random),
+        6 => Plan::large(random),
+        _ => Plan::at_limits(random),
+    };
+    plan.text(random)
+}
+
+/// How many records of each kind, and how heavy the formulas are.
+struct Plan {
+    signals: usize,
+    constants: usize,
+    vertices: usize,
+    edges: usize,
+    /// The most operators in one formula.
+    operators: usize,
+    long_names: bool,
+}
+
+impl Plan {
+    fn small(random: &mut Random) -> Plan {
+        Plan {
+            signals: random.within(0..=3),
+            constants: random.within(0..=2),
+            vertices: random.within(1..=3),
+            edges: random.within(0..=6),
+            operators: random.within(0..=3),
+            long_names: false,
+        }
+    }
+
+    fn medium(random: &mut Random) -> Plan {
+        Plan {
+            signals: random.within(0..=12),
+            constants: random.within(0..=6),
+            vertices: random.within(1..=12),
+            edges: random.within(0..=30),
+            operators: random.within(0..=8),
+            long_names: random.coin(),
+        }
+    }
+
+    fn large(random: &mut Random) -> Plan {
+        Plan {
+            signals: random.within(0..=63),
+            constants: random.within(0..=6),
+            vertices: random.within(1..=64),
+            edges: random.within(0..=128),
+            operators: random.pick(&[0, 1, 4, 12, 40, 90]),
+            long_names: random.once_in(4),
+        }
+    }
+
+    /// Each count at its limit or, now and then, one over.
+    fn at_limits(random: &mut Random) -> Plan {
+        let mut count = |low: usize, limit: usize| match random.below(8) {
+            0..=3 => limit,
+            4 => limit + usize::from(random.once_in(2)),
+            _ => random.within(low..=limit),
+        };
+        Plan {
+            signals: count(0, 63),
+            constants: count(0, 6),
+            vertices: count(1, 64),
+            edges: count(0, 128),
+            operators: 1,
+            long_names: false,
+        }
+    }
+
+    fn text(&self, random: &mut Random) -> Vec<u8> {
+        let mut atoms = names(random, self.signals + self.constants, self.long_names);
+        let mut vertices = names(random, self.vertices, self.long_names);
+        if random.once_in(40) {
+            repeat_one(random, &mut atoms);
+            repeat_one(random, &mut vertices);
+        }
+        let mut text = String::new();
+        for (index, name) in atoms.iter().enumerate() {
+            let kind = if index < self.signals { 'S' } else { 'K' };
+            text += &format!("{kind}\t{name}\n");
+        }
+        for name in &vertices {
+            text += &format!("V\t{name}\n");
+        }
+        for _ in 0..self.edges {
+            text += &self.edge(random, &atoms, &vertices);
+        }
+        text.into_bytes()
+    }
+
+    fn edge(&self, random: &mut Random, atoms: &[String], vertices: &[String]) -> String {
+        let from = &vertices[random.below(vertices.len())];
+        let to = &vertices[random.below(vertices.len())];
+        let mark = random.pick(&["t", "-"]);
+        let mut field = |plain: &str| match random.below(3) {
+            // Antecedents that hold let paths grow long.
+            0 => plain.to_string(),
+            _ => formula(random, atoms, self.operators),
+        };
+        let (antecedent, consequent) = (field("1"), field("0"));
+        format!("E\t{from}\t{to}\t{mark}\t{antecedent}\t{consequent}\n")
+    }
+}
+
+/// Distinct names: no digit stands before the index, or each is one letter.
+fn names(random: &mut Random, count: usize, long: bool) -> Vec<String> {
+    const LETTERS: &[u8; 52] = b"abcdefghijklmnopqrstuvwxyzABCDEFGHIJKLMNOPQRSTUVWXYZ";
+    if count <= LETTERS.len() && !long && random.coin() {
+        return LETTERS[..count]
+            .iter()
+            .map(|letter| char::from(*letter).to_string())
+            .collect();
+    }
+    (0..count)
+        .map(|index| {
+            let index = index.to_string();
+            let most = 14 - index.len();
+            let filling = if long { most } else { random.within(0..=most) };
+            let mut name = String::from(char::from(random.pick(LETTERS)));
+            for _ in 0..filling {
+                name.push(char::from(random.pick(b"abcxyzABCXYZ_")));
+            }
+            name + &index
+        })
+        .collect()
+}
+
+/// Gives one name, if there is one, to another place, or to its own.
+fn repeat_one(random: &mut Random, names: &mut [String]) {
+    if !names.is_empty() {
+        let (from, to) = (random.below(names.len()), random.below(names.len()));
+        names[to] = names[from].clone();
+    }
+}
+
+/// A formula with at most so many operators, nearly always of the right form.
+fn formula(random: &mut Random, atoms: &[String], operators: usize) -> String {
+    let operators = random.within(0..=operators);
+    let depth = if random.once_in(2_000) { 17 } else { 16 };
+    let text = operand(random, atoms, operators, depth);
+    match text.len() > 255 && !random.once_in(100) {
+        true => operand(random, atoms, operators.min(3), 3),
+        false => text,
+    }
+}
+
+/// With `room` levels of `(` and `!` left.
+fn operand(random: &mut Random, atoms: &[String], operators: usize, room: usize) -> String {
+    if room > 0 && random.once_in(5) {
+        let inner = operand(random, atoms, operators, room - 1);
+        // A `!` stands over the first operand only, but no level is lost by that.
+        return match random.coin() {
+            true => format!("!{inner}"),
+            false => format!("({inner})"),
+        };
+    }
+    if operators == 0 {
+        return leaf(random, atoms);
+    }
+    let on_the_left = random.below(operators);
+    let left = operand(random, atoms, on_the_left, room);
+    let right = operand(random, atoms, operators - 1 - on_the_left, room);
+    let operator = random.pick(&['&', '|', '^', '=']);
+    format!("{left}{operator}{right}")
+}
+
+fn leaf(random: &mut Random, atoms: &[String]) -> String {
+    if atoms.is_empty() || random.once_in(12) {
+        return random.pick(&["0", "1"]).to_string();
+    }
+    atoms[random.below(atoms.len())].clone()
+}
+
+/// Changes one record's fields in ways that its shape or meaning may not bear;
+/// with two faults in one line the lower number must decide.
+fn change_record(random: &mut Random, text: &mut Vec<u8>) {
+    change_fields(random, text, b'\t', |random, fields| {
+        for _ in 0..random.within(1..=2) {
+            change_field(random, fields);
+        }
+    });
+}
+
+fn change_field(random: &mut Random, fields: &mut Vec<Vec<u8>>) {
+    let field = match fields.len() {
+        0 => return,
+        // Mostly the formulas of an edge.
+        6 if !random.once_in(3) => random.within(4..=5),
+        count => random.below(count),
+    };
+    match random.below(10) {
+        0 => drop(fields.remove(field)),
+        1 => fields.insert(field, fields[field].clone()),
+        2 => fields[0] = vec![random.pick(b"SKVETsk")],
+        _ => fields[field] = wrong_field(random, &fields[field]),
+    }
+}
+
+/// A field that is wrong in most places, or only unknown there.
+fn wrong_field(random: &mut Random, field: &[u8]) -> Vec<u8> {
+    let plain = String::from_utf8_lossy(field);
+    let deep = random.within(15..=18);
+    let text = match random.below(16) {
+        0 => String::new(),
+        1 => "10".into(),
+        2 => "unknown".into(),
+        3 => "a".into(),
+        4 => "fifteen_bytes_x".into(),
+        5 => "sixteen_bytes_xx".into(),
+        6 => "!".repeat(deep) + &plain,
+        7 => "(".repeat(deep) + &plain + &")".repeat(deep),
+        8 => "!(".repeat(deep / 2) + "unknown" + &")".repeat(deep / 2),
+        9 => format!("{plain}&"),
+        10 => format!("({plain}"),
+        11 => format!("{plain})"),
+        12 => format!("{plain}={plain}"),
+        13 => exact_formula(random.within(254..=257)),
+        14 => "(".repeat(127) + "1" + &")".repeat(127),
+        _ => format!("{plain} "),
+    };
+    text.into_bytes()
+}
+
+/// A formula of this many bytes.
+fn exact_formula(length: usize) -> String {
+    let operators = (length - 1) / 2;
+    let ones = String::from("1") + &"&1".repeat(operators);
+    match length % 2 {
+        0 => format!("!{ones}"),
+        _ => ones,
+    }
+}
+
+/// Signals and constants only, or nothing at all.
+fn without_vertices(random: &mut Random) -> Vec<u8> {
+    let plan = Plan {
+        vertices: 0,
+        edges: 0,
+        ..Plan::small(random)
+    };
+    plan.text(random)
+}
+
+/// An accepted graph of 32,767 or 32,768 bytes, or one of a byte more.
+fn near_size_limit(random: &mut Random) -> Vec<u8> {
+    let size = random.within(MAX_GRAPH_BYTES - 1..=MAX_GRAPH_BYTES + 1);
+    let name = "fifteen_bytes_x";
+    let mut text = format!("S\t{name}\nV\t{name}\n");
+    let edge = |antecedent: &str, consequent: &str| {
+        format!("E\t{name}\t{name}\tt\t{antecedent}\t{consequent}\n")
+    };
+    let bare = edge("", "").len();
+    while size - text.len() > bare + 500 {
+        let mut long = || {
+            let repeated = vec![name; random.within(9..=12)];
+            repeated.join(random.pick(&["&", "|"]))
+        };
+        text += &edge(&long(), &long());
+    }
+    let left = size - text.len() - bare;
+    let antecedent = exact_formula(left.min(256) - 1);
+    let consequent = exact_formula(left - antecedent.len());
+    text += &edge(&antecedent, &consequent);
+    text.into_bytes()
+}
+
+/// A graph whose M is about 4,095, by operators added to a random graph.
+fn near_variable_limit(random: &mut Random) -> Vec<u8> {
+    let plan = Plan {
+        signals: random.within(0..=63),
+        constants: random.within(0..=6),
+        vertices: random.within(1..=64),
+        edges: random.within(0..=100),
+        operators: 2,
+        long_names: false,
+    };
+    let text = plan.text(random);
+    let fillers = 14;
+    let Some(variables) = variables(&with_fillers(&text, fillers, 0)) else {
+        return text;
+    };
+    let due = random.within(4_092..=4_098);
+    with_fillers(&text, fillers, due.saturating_sub(variables))
+}
+
+/// The text with self-loops on its first vertex that hold so many operators.
+fn with_fillers(text: &[u8], fillers: usize, operators: usize) -> Vec<u8> {
+    let mut text = String::from_utf8_lossy(text).into_owned();
+    let start = text
+        .lines()
+        .find_map(|line| line.strip_prefix("V\t"))
+        .unwrap_or("none")
+        .to_string();
+    let mut left = operators;
+    let mut filled = || {
+        let here = left.min(127);
+        left -= here;
+        exact_formula(1 + 2 * here)
+    };
+    for _ in 0..fillers {
+        text += &format!("E\t{start}\t{start}\t-\t{}\t{}\n", filled(), filled());
+    }
+    text.into_bytes()
+}
+
+/// M of a graph that is accepted but for its M and the buffer.
+fn variables(text: &[u8]) -> Option<usize> {
+    let graph = Graph::parse(text).ok()?;
+    let latches = graph.constants + 2 * graph.edges.len();
+    Some(1 + graph.signals + latches + formula_of_gates(&graph))
+}

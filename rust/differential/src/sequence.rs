@@ -1,0 +1,213 @@
+//! Demand 3: an accepted graph, an accepted start, and a list of steps and runs
+//! with latch words and tally handed on, refused calls included; its tally and
+//! verdicts against the paths of the graph.
+
+use crate::cases::{write_and_read_back, Bench};
+use crate::compare::{Call, Lengths, Memory, Mismatch, Name, Outcome};
+use crate::{graphs, netlists, traces};
+use reference::{rejected_cycles, Graph, Tally};
+
+/// The netlist of a graph with what one call leaves to the next.
+struct Thread {
+    text: Vec<u8>,
+    graph: Graph,
+    net: Vec<u16>,
+    latches: Vec<u64>,
+    tally: Tally,
+    /// The cycles of the accepted calls since start.
+    cycles: Vec<Vec<u8>>,
+    /// What the accepted calls showed.
+    shown: Vec<Shown>,
+}
+
+/// After so many cycles: the tally, and the verdict bytes of the last ones.
+struct Shown {
+    cycles: usize,
+    tally: Tally,
+    verdicts: Vec<u8>,
+}
+
+pub fn sequence(bench: &mut Bench) -> Result<(), Mismatch> {
+    let mut thread = built(bench)?;
+    if bench.random.once_in(4) {
+        write_and_read_back(bench, thread.net.clone())?;
+    }
+    for _ in 0..bench.random.within(1..=2) {
+        thread.start(bench)?;
+        for _ in 0..bench.random.within(1..=8) {
+            match bench.random.coin() {
+                true => thread.step(bench)?,
+                false => thread.run(bench)?,
+            }
+        }
+        thread.check_paths(bench)?;
+    }
+    Ok(())
+}
+
+/// Builds accepted graphs only; a refused draw is drawn again.
+fn built(bench: &mut Bench) -> Result<Thread, Mismatch> {
+    loop {
+        let text = match bench.random.below(4) {
+            0 => graphs::undamaged(&mut bench.random),
+            _ => graphs::small(&mut bench.random),
+        };
+        let Some(net) = netlists::net_of(&text) else {
+            continue;
+        };
+        let lengths = Lengths {
+            net: net.len(),
+            ..Lengths::default()
+        };
+        let memory = Memory::random(&mut bench.random, lengths);
+        let outcome = bench.compare(&Call::on_bytes(Name::Build, text.clone()), memory)?;
+        return Ok(Thread {
+            graph: Graph::parse(&text).expect("an accepted graph"),
+            text,
+            net: outcome.memory.net.get().to_vec(),
+            latches: Vec::new(),
+            tally: Tally::default(),
+            cycles: Vec::new(),
+            shown: Vec::new(),
+        });
+    }
+}
+
+impl Thread {
+    fn inputs(&self) -> usize {
+        usize::from(self.net[1])
+    }
+
+    fn latch_count(&self) -> usize {
+        usize::from(self.net[2])
+    }
+
+    fn value_count(&self) -> usize {
+        usize::from(self.net[0]) + 1
+    }
+
+    /// An accepted start, on memory of any contents.
+    fn start(&mut self, bench: &mut Bench) -> Result<(), Mismatch> {
+        let lengths = Lengths {
+            latches: self.latch_count() + bench.random.below(3),
+            ..Lengths::default()
+        };
+        let memory = Memory::random(&mut bench.random, lengths);
+        let call = Call::on_net(Name::Start, self.net.clone(), Vec::new());
+        let outcome = bench.compare(&call, memory)?;
+        self.hand_on(&outcome);
+        self.cycles.clear();
+        self.shown.clear();
+        Ok(())
+    }
+
+    fn step(&mut self, bench: &mut Bench) -> Result<(), Mismatch> {
+        let cycle = traces::any_cycle(&mut bench.random, self.inputs());
+        let memory = self.memory(bench, 0);
+        let call = Call::on_net(Name::Step, self.net.clone(), cycle);
+        let outcome = bench.compare(&call, memory)?;
+        if outcome.is_accepted() {
+            self.cycles.push(call.bytes);
+            self.hand_on(&outcome);
+            self.show(vec![u8::from(outcome.memory.answer != u64::MAX)]);
+        }
+        Ok(())
+    }
+
+    fn run(&mut self, bench: &mut Bench) -> Result<(), Mismatch> {
+        let most = self.affordable_cycles();
+        let cycles = bench.random.within(0..=most);
+        let trace = traces::any_trace(&mut bench.random, self.inputs(), cycles);
+        let memory = self.memory(bench, cycles);
+        let call = Call::on_net(Name::Run, self.net.clone(), trace);
+        let outcome = bench.compare(&call, memory)?;
+        if outcome.is_accepted() {
+            let lines = call.bytes.chunks_exact(self.inputs() + 1);
+            let new_cycles: Vec<Vec<u8>> =
+                lines.map(|line| line[..self.inputs()].to_vec()).collect();
+            let verdicts = outcome.memory.verdicts.get()[..new_cycles.len()].to_vec();
+            self.cycles.extend(new_cycles);
+            self.hand_on(&outcome);
+            self.show(verdicts);
+        }
+        Ok(())
+    }
+
+    /// The latch words and tally that the call before left, and other buffers
+    /// at random; sometimes one is too short, and the call is refused.
+    fn memory(&self, bench: &mut Bench, verdicts: usize) -> Memory {
+        let lengths = Lengths {
+            latches: bench.length(self.latch_count()),
+            values: bench.length(self.value_count()),
+            verdicts: bench.length(verdicts),
+            ..Lengths::default()
+        };
+        let mut memory = Memory::random(&mut bench.random, lengths);
+        for (word, left) in memory.latches.get_mut().iter_mut().zip(&self.latches) {
+            *word = *left;
+        }
+        memory.tally = self.tally;
+        memory
+    }
+
+    /// A refused call has left all as it was, so only accepted ones come here.
+    fn hand_on(&mut self, outcome: &Outcome) {
+        self.latches = outcome.memory.latches.get()[..self.latch_count()].to_vec();
+        self.tally = outcome.memory.tally;
+    }
+
+    fn show(&mut self, verdicts: Vec<u8>) {
+        self.shown.push(Shown {
+            cycles: self.cycles.len(),
+            tally: self.tally,
+            verdicts,
+        });
+    }
+
+    /// Following paths takes settings × edges for each vertex reached.
+    fn affordable_cycles(&self) -> usize {
+        let work = (self.graph.edges.len() + 1) << self.graph.constants;
+        (20_000 / work).clamp(3, 30)
+    }
+
+    fn check_paths(&self, bench: &mut Bench) -> Result<(), Mismatch> {
+        let cycles: Vec<&[u8]> = self.cycles.iter().map(Vec::as_slice).collect();
+        let rejected = rejected_cycles(&self.graph, &cycles);
+        for shown in &self.shown {
+            self.check_shown(shown, &rejected[..shown.cycles])?;
+        }
+        bench.coverage.path_cycles += cycles.len() as u64;
+        bench.coverage.path_rejected += count(&rejected) as u64;
+        Ok(())
+    }
+
+    fn check_shown(&self, shown: &Shown, rejected: &[bool]) -> Result<(), Mismatch> {
+        let due_tally = Tally {
+            cycles: shown.cycles as u32,
+            rejected: count(rejected) as u32,
+        };
+        let last = &rejected[rejected.len() - shown.verdicts.len()..];
+        let due_verdicts: Vec<u8> = last.iter().map(|rejected| u8::from(*rejected)).collect();
+        if shown.tally == due_tally && shown.verdicts == due_verdicts {
+            return Ok(());
+        }
+        Err(Mismatch(format!(
+            "calls: build, start, then steps and runs\ngraph: \"{}\"\ncycles: {:?}\n\
+             after {} cycles: {:?}, by paths {:?}\nverdicts {:?}, by paths {:?}\n",
+            self.text.escape_ascii(),
+            self.cycles
+                .iter()
+                .map(|cycle| cycle.escape_ascii().to_string())
+                .collect::<Vec<_>>(),
+            shown.cycles,
+            shown.tally,
+            due_tally,
+            shown.verdicts,
+            due_verdicts,
+        )))
+    }
+}
+
+fn count(rejected: &[bool]) -> usize {
+    rejected.iter().filter(|rejected| **rejected).count()
+}

@@ -1,0 +1,92 @@
+//! Every change of one byte or one number in a few small inputs.
+
+use crate::cases::Bench;
+use crate::compare::{Call, Lengths, Memory, Mismatch, Name};
+use reference::Tally;
+
+/// Has records of every kind, operators of every strength, both marks.
+const GRAPH: &[u8] = b"S\tp\nS\tq_9\nK\tk\nV\ta\nV\tbZ\n\
+    E\ta\tbZ\tt\tp=k|q_9\t!(p&1)\nE\tbZ\ta\t-\tp^0\tk\n";
+const AIGER: &[u8] = b"aag 6 2 3 1 1\n2\n4\n6 5\n8 12 1\n10 10 10\n12\n12 9 4\n";
+const NUMBERS: [u16; 14] = [6, 2, 3, 1, 1, 5, 0, 12, 1, 10, 10, 12, 9, 4];
+const TRACE: &[u8] = b"10\n01\n11\n";
+
+/// Answers how many calls were compared.
+pub fn sweep(bench: &mut Bench) -> Result<usize, Mismatch> {
+    let mut count = 0;
+    for (name, text) in [(Name::Build, GRAPH), (Name::Read, AIGER)] {
+        for changed in changed_texts(text) {
+            sweep_call(bench, Call::on_bytes(name, changed))?;
+            count += 1;
+        }
+    }
+    for changed in changed_texts(TRACE) {
+        sweep_call(bench, Call::on_net(Name::Run, NUMBERS.to_vec(), changed))?;
+        count += 1;
+    }
+    for changed in changed_texts(b"01") {
+        sweep_call(bench, Call::on_net(Name::Step, NUMBERS.to_vec(), changed))?;
+        count += 1;
+    }
+    for net in changed_numbers() {
+        for (name, bytes) in [
+            (Name::Write, &b""[..]),
+            (Name::Start, b""),
+            (Name::Step, b"01"),
+            (Name::Run, TRACE),
+        ] {
+            sweep_call(bench, Call::on_net(name, net.clone(), bytes.to_vec()))?;
+            count += 1;
+        }
+    }
+    Ok(count)
+}
+
+/// On buffers long enough for all of these.
+fn sweep_call(bench: &mut Bench, call: Call) -> Result<(), Mismatch> {
+    let lengths = Lengths {
+        net: 300,
+        text: 200,
+        latches: 20,
+        values: 40,
+        verdicts: 12,
+    };
+    let mut memory = Memory::random(&mut bench.random, lengths);
+    memory.tally = Tally::default();
+    bench.compare(&call, memory)?;
+    Ok(())
+}
+
+/// The text with each byte put instead of each, or before each, or at the end;
+/// with each byte left out; and cut off at each place.
+fn changed_texts(text: &[u8]) -> Vec<Vec<u8>> {
+    let mut changed = vec![text.to_vec()];
+    for place in 0..=text.len() {
+        let (before, after) = text.split_at(place);
+        changed.push(before.to_vec());
+        for byte in 0..=255 {
+            changed.push([before, &[byte], after].concat());
+            if let Some((_, rest)) = after.split_first() {
+                changed.push([before, &[byte], rest].concat());
+            }
+        }
+        if let Some((_, rest)) = after.split_first() {
+            changed.push([before, rest].concat());
+        }
+    }
+    changed
+}
+
+/// The numbers with each of them changed to each that may matter, and cut off.
+fn changed_numbers() -> Vec<Vec<u16>> {
+    let mut changed = vec![NUMBERS.to_vec()];
+    for place in 0..NUMBERS.len() {
+        changed.push(NUMBERS[..place].to_vec());
+        for number in (0..20).chain([64, 65, 4_095, 4_096, 8_191, 8_192, u16::MAX]) {
+            let mut net = NUMBERS.to_vec();
+            net[place] = number;
+            changed.push(net);
+        }
+    }
+    changed
+}

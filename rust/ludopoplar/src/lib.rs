@@ -1,0 +1,120 @@
+//! Builder and simulator of monitor circuits: safe calls into the proved
+//! static library.
+//!
+//! Each function is one call of the C interface. A refused call leaves every
+//! buffer and the tally as they were; a longer buffer keeps its surplus.
+
+pub mod raw;
+
+/// Why a call was turned down: a number of document 01's table, and the line at
+/// fault (0 where there is none).
+#[derive(Clone, Copy, Debug, PartialEq, Eq)]
+pub struct Refusal {
+    pub number: u32,
+    pub line: u32,
+}
+
+impl Refusal {
+    /// The refusal in a call's return: 0 where accepted, else number × 2^32 + line.
+    pub fn check(code: u64) -> Result<(), Refusal> {
+        match code {
+            0 => Ok(()),
+            _ => Err(Refusal {
+                number: (code >> 32) as u32,
+                line: code as u32,
+            }),
+        }
+    }
+}
+
+/// How many cycles were run since start, and how many of them were rejected.
+#[derive(Clone, Copy, Debug, Default, PartialEq, Eq)]
+pub struct Tally {
+    pub cycles: u32,
+    pub rejected: u32,
+}
+
+#[derive(Clone, Copy, Debug, PartialEq, Eq)]
+pub enum Verdict {
+    Accepted,
+    Rejected,
+}
+
+/// Builds the monitor circuit of a graph text; returns the number of its gates.
+pub fn build(graph: &[u8], net: &mut [u16]) -> Result<u64, Refusal> {
+    let mut gates = 0;
+    Refusal::check(raw::build(graph, net, &mut gates))?;
+    Ok(gates)
+}
+
+/// Writes a netlist as AIGER text; returns the text's length in bytes.
+pub fn write(net: &[u16], text: &mut [u8]) -> Result<usize, Refusal> {
+    let mut length = 0;
+    Refusal::check(raw::write(net, text, &mut length))?;
+    Ok(length as usize)
+}
+
+/// Reads an AIGER text; returns how many numbers the netlist has.
+pub fn read(text: &[u8], net: &mut [u16]) -> Result<usize, Refusal> {
+    let mut length = 0;
+    Refusal::check(raw::read(text, net, &mut length))?;
+    Ok(length as usize)
+}
+
+/// Sets the latch words to their resets and the tally to zero.
+pub fn start(net: &[u16], latches: &mut [u64], tally: &mut Tally) -> Result<(), Refusal> {
+    Refusal::check(raw::start(
+        net,
+        latches,
+        &mut tally.cycles,
+        &mut tally.rejected,
+    ))
+}
+
+/// Simulates one cycle; returns the output word, one bit a lane.
+pub fn step(
+    net: &[u16],
+    cycle: &[u8],
+    latches: &mut [u64],
+    values: &mut [u64],
+    tally: &mut Tally,
+) -> Result<u64, Refusal> {
+    let mut word = 0;
+    Refusal::check(raw::step(
+        net,
+        cycle,
+        latches,
+        values,
+        &mut tally.cycles,
+        &mut tally.rejected,
+        &mut word,
+    ))?;
+    Ok(word)
+}
+
+/// Simulates a trace, with one byte a cycle in `verdicts`, 1 where rejected;
+/// returns the verdict of the last cycle.
+pub fn run(
+    net: &[u16],
+    trace: &[u8],
+    latches: &mut [u64],
+    values: &mut [u64],
+    verdicts: &mut [u8],
+    tally: &mut Tally,
+) -> Result<Verdict, Refusal> {
+    let mut verdict = 0;
+    Refusal::check(raw::run(
+        net,
+        trace,
+        latches,
+        values,
+        verdicts,
+        &mut tally.cycles,
+        &mut tally.rejected,
+        &mut verdict,
+    ))?;
+    Ok(match verdict {
+        0 => Verdict::Accepted,
+        _ => Verdict::Rejected,
+    })
+}

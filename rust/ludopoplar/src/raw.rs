@@ -1,0 +1,179 @@
+//! The C interface as it stands: each call returns 0 where it is accepted, else
+//! number × 2^32 + line, and a refusal leaves its out-parameters as they were.
+
+mod c {
+    extern "C" {
+        pub fn ludo_build(
+            graph: *const u8,
+            graph_len: usize,
+            net: *mut u16,
+            net_len: usize,
+            gates: *mut u64,
+        ) -> u64;
+
+        pub fn ludo_write(
+            net: *const u16,
+            net_len: usize,
+            text: *mut u8,
+            text_len: usize,
+            length: *mut u64,
+        ) -> u64;
+
+        pub fn ludo_read(
+            text: *const u8,
+            text_len: usize,
+            net: *mut u16,
+            net_len: usize,
+            length: *mut u64,
+        ) -> u64;
+
+        pub fn ludo_start(
+            net: *const u16,
+            net_len: usize,
+            latches: *mut u64,
+            latches_len: usize,
+            cycles: *mut u32,
+            rejected: *mut u32,
+        ) -> u64;
+
+        pub fn ludo_step(
+            net: *const u16,
+            net_len: usize,
+            cycle: *const u8,
+            cycle_len: usize,
+            latches: *mut u64,
+            latches_len: usize,
+            values: *mut u64,
+            values_len: usize,
+            cycles: *mut u32,
+            rejected: *mut u32,
+            word: *mut u64,
+        ) -> u64;
+
+        pub fn ludo_run(
+            net: *const u16,
+            net_len: usize,
+            trace: *const u8,
+            trace_len: usize,
+            latches: *mut u64,
+            latches_len: usize,
+            values: *mut u64,
+            values_len: usize,
+            verdicts: *mut u8,
+            verdicts_len: usize,
+            cycles: *mut u32,
+            rejected: *mut u32,
+            verdict: *mut u64,
+        ) -> u64;
+    }
+}
+
+// SAFETY, of all six: every pointer comes from a reference or a slice that lives
+// through the call, with that slice's own length; the exclusive borrows keep what
+// the library writes apart from all else; the library keeps no pointer.
+
+pub fn build(graph: &[u8], net: &mut [u16], gates: &mut u64) -> u64 {
+    unsafe {
+        c::ludo_build(
+            graph.as_ptr(),
+            graph.len(),
+            net.as_mut_ptr(),
+            net.len(),
+            gates,
+        )
+    }
+}
+
+pub fn write(net: &[u16], text: &mut [u8], length: &mut u64) -> u64 {
+    unsafe {
+        c::ludo_write(
+            net.as_ptr(),
+            net.len(),
+            text.as_mut_ptr(),
+            text.len(),
+            length,
+        )
+    }
+}
+
+pub fn read(text: &[u8], net: &mut [u16], length: &mut u64) -> u64 {
+    unsafe {
+        c::ludo_read(
+            text.as_ptr(),
+            text.len(),
+            net.as_mut_ptr(),
+            net.len(),
+            length,
+        )
+    }
+}
+
+pub fn start(net: &[u16], latches: &mut [u64], cycles: &mut u32, rejected: &mut u32) -> u64 {
+    unsafe {
+        c::ludo_start(
+            net.as_ptr(),
+            net.len(),
+            latches.as_mut_ptr(),
+            latches.len(),
+            cycles,
+            rejected,
+        )
+    }
+}
+
+pub fn step(
+    net: &[u16],
+    cycle: &[u8],
+    latches: &mut [u64],
+    values: &mut [u64],
+    cycles: &mut u32,
+    rejected: &mut u32,
+    word: &mut u64,
+) -> u64 {
+    unsafe {
+        c::ludo_step(
+            net.as_ptr(),
+            net.len(),
+            cycle.as_ptr(),
+            cycle.len(),
+            latches.as_mut_ptr(),
+            latches.len(),
+            values.as_mut_ptr(),
+            values.len(),
+            cycles,
+            rejected,
+            word,
+        )
+    }
+}
+
+// As many arguments as the C function has.
+#[allow(clippy::too_many_arguments)]
+pub fn run(
+    net: &[u16],
+    trace: &[u8],
+    latches: &mut [u64],
+    values: &mut [u64],
+    verdicts: &mut [u8],
+    cycles: &mut u32,
+    rejected: &mut u32,
+    verdict: &mut u64,
+) -> u64 {
+    unsafe {
+        c::ludo_run(
+            net.as_ptr(),
+            net.len(),
+            trace.as_ptr(),
+            trace.len(),
+            latches.as_mut_ptr(),
+            latches.len(),
+            values.as_mut_ptr(),
+            values.len(),
+            verdicts.as_mut_ptr(),
+            verdicts.len(),
+            cycles,
+            rejected,
+            verdict,
+        )
+    }
+}

@@ -1,0 +1,86 @@
+//! Document 01's graph G through the safe calls.
+
+use ludopoplar::{build, read, run, start, step, write, Refusal, Tally, Verdict};
+
+const G: &[u8] = b"S\tp\nS\tq\nV\ta\nV\tb\nE\ta\tb\tt\tp\tq\n";
+const FILE_OF_G: &[u8] = b"aag 12 3 2 1 7\n2\n4\n6\n8 18\n10 25\n24\n\
+    12 8 3\n14 10 3\n16 4 2\n18 16 6\n20 16 7\n22 4 0\n24 23 21\n";
+
+fn net_of_g() -> [u16; 24] {
+    let mut net = [0; 24];
+    assert_eq!(build(G, &mut net), Ok(7));
+    net
+}
+
+#[test]
+fn built_written_and_read_back() {
+    let net = net_of_g();
+    let mut text = [b'x'; 200];
+    let length = write(&net, &mut text).unwrap();
+    assert_eq!(text[..length], *FILE_OF_G);
+    assert!(text[length..].iter().all(|byte| *byte == b'x'));
+    let mut back = [0; 24];
+    assert_eq!(read(FILE_OF_G, &mut back), Ok(24));
+    assert_eq!(back, net);
+}
+
+#[test]
+fn run_and_step() {
+    let net = net_of_g();
+    let (mut latches, mut values, mut verdicts) = ([5; 2], [5; 13], [5; 3]);
+    let mut tally = Tally::default();
+    start(&net, &mut latches, &mut tally).unwrap();
+    let verdict = run(
+        &net,
+        b"110\n111\n010\n",
+        &mut latches,
+        &mut values,
+        &mut verdicts,
+        &mut tally,
+    );
+    assert_eq!((verdict, verdicts), (Ok(Verdict::Accepted), [1, 0, 0]));
+    let word = step(&net, b"110", &mut latches, &mut values, &mut tally);
+    assert_eq!(word, Ok(0));
+    let due = Tally {
+        cycles: 4,
+        rejected: 2,
+    };
+    assert_eq!(tally, due);
+}
+
+#[test]
+fn empty_slices() {
+    let refusal = |number, line| Refusal { number, line };
+    assert_eq!(build(b"", &mut []), Err(refusal(10, 0)));
+    assert_eq!(read(b"", &mut []), Err(refusal(13, 1)));
+    assert_eq!(write(&[], &mut []), Err(refusal(16, 0)));
+    // No latch, no gate, no cycle: nothing is lent but two value words.
+    let net = [1, 1, 0, 1, 0, 2];
+    let mut tally = Tally::default();
+    assert_eq!(start(&net, &mut [], &mut tally), Ok(()));
+    let verdict = run(&net, b"", &mut [], &mut [7; 2], &mut [], &mut tally);
+    assert_eq!(verdict, Ok(Verdict::Accepted));
+}
+
+#[test]
+fn refusals_leave_all_as_it_was() {
+    let net = net_of_g();
+    let (mut latches, mut values) = ([5; 2], [6; 13]);
+    let mut tally = Tally {
+        cycles: 3,
+        rejected: 2,
+    };
+    let before = tally;
+    let refused = step(&net, b"1x0", &mut latches, &mut values, &mut tally);
+    assert_eq!(
+        refused,
+        Err(Refusal {
+            number: 15,
+            line: 1
+        })
+    );
+    assert_eq!((latches, values, tally), ([5; 2], [6; 13], before));
+    let mut length = 77;
+    let code = ludopoplar::raw::read(FILE_OF_G, &mut [0; 23], &mut length);
+    assert_eq!((code, length), (12 << 32, 77));
+}

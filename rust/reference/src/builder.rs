@@ -1,0 +1,350 @@
+//! Building: a graph's monitor circuit.
+
+use crate::formula::{Formula, Operator};
+use crate::graph::{Atom, Edge, Graph};
+use crate::netlist::{Gate, Header, Latch, Literal, Netlist, Reset, Variable};
+use crate::refusal::{fill, Cause, Refusal};
+
+/// Checks 1, then the lines, then 10, 11, 12; returns the number of gates made.
+pub fn build(graph: &[u8], net: &mut [u16]) -> Result<usize, Refusal> {
+    let graph = Graph::parse(graph)?;
+    let netlist = circuit(&graph);
+    if !netlist.header.is_lawful() {
+        return Err(Cause::TooManyVariables.no_line());
+    }
+    fill(net, &netlist.numbers())?;
+    Ok(netlist.gates.len())
+}
+
+/// "Gates = 7E + (E − non-start vertices with an incoming edge) + (E − vertices
+/// with an incoming edge) + max(T − 1, 0) + F."
+pub fn formula_of_gates(graph: &Graph) -> usize {
+    let edges = graph.edges.len();
+    let has_incoming = |vertex: &usize| graph.edges.iter().any(|edge| edge.to == *vertex);
+    let reached = (0..graph.vertices).filter(has_incoming).count();
+    let reached_non_start = (1..graph.vertices).filter(has_incoming).count();
+    let terminal = graph.edges.iter().filter(|edge| edge.terminal).count();
+    let operators: usize = graph
+        .edges
+        .iter()
+        .map(|edge| edge.antecedent.gates() + edge.consequent.gates())
+        .sum();
+    7 * edges
+        + (edges - reached_non_start)
+        + (edges - reached)
+        + terminal.saturating_sub(1)
+        + operators
+}
+
+/// A literal for each token.
+#[derive(Clone, Copy)]
+struct Tokens {
+    happy: Literal,
+    condemned: Literal,
+}
+
+/// The circuit, also where M passes the limit.
+fn circuit(graph: &Graph) -> Netlist {
+    let mut maker = Maker::new(graph);
+    let masked: Vec<Tokens> = (0..graph.edges.len())
+        .map(|edge| maker.masked(edge))
+        .collect();
+    let at: Vec<Tokens> = (0..graph.vertices)
+        .map(|vertex| maker.gathered(vertex, &masked))
+        .collect();
+    let now: Vec<Tokens> = graph
+        .edges
+        .iter()
+        .map(|edge| maker.moved(edge, at[edge.from]))
+        .collect();
+    let accept = maker.accept(&now);
+    maker.netlist(&now, accept)
+}
+
+struct Maker<'a> {
+    graph: &'a Graph,
+    gates: Vec<Gate>,
+}
+
+impl<'a> Maker<'a> {
+    fn new(graph: &'a Graph) -> Self {
+        Maker {
+            graph,
+            gates: Vec::new(),
+        }
+    }
+
+    // "Inputs: init, then signals. Latches: constants in order, then happy and
+    // condemned for each edge."
+
+    fn inputs(&self) -> usize {
+        1 + self.graph.signals
+    }
+
+    fn latches(&self) -> usize {
+        self.graph.constants + 2 * self.graph.edges.len()
+    }
+
+    fn init(&self) -> Literal {
+        literal(1)
+    }
+
+    fn signal(&self, index: usize) -> Literal {
+        literal(2 + index)
+    }
+
+    fn constant(&self, index: usize) -> Literal {
+        literal(1 + self.inputs() + index)
+    }
+
+    fn tokens(&self, edge: usize) -> Tokens {
+        let happy = 1 + self.inputs() + self.graph.constants + 2 * edge;
+        Tokens {
+            happy: literal(happy),
+            condemned: literal(happy + 1),
+        }
+    }
+
+    /// One gate, "the larger operand first".
+    fn and(&mut self, one: Literal, other: Literal) -> Literal {
+        self.gates.push(Gate {
+            r0: one.max(other),
+            r1: one.min(other),
+        });
+        literal(self.inputs() + self.latches() + self.gates.len())
+    }
+
+    /// "NOT so-far AND NOT term, inverted."
+    fn or(&mut self, so_far: Literal, term: Literal) -> Literal {
+        !self.and(!so_far, !term)
+    }
+
+    /// "No term: 0. One term: itself. A further term: one gate."
+    fn or_all(&mut self, terms: impl IntoIterator<Item = Literal>) -> Literal {
+        terms
+            .into_iter()
+            .reduce(|so_far, term| self.or(so_far, term))
+            .unwrap_or(Literal::FALSE)
+    }
+
+    /// Part 1: "happy latch AND NOT init; condemned latch AND NOT init."
+    fn masked(&mut self, edge: usize) -> Tokens {
+        let Tokens { happy, condemned } = self.tokens(edge);
+        Tokens {
+            happy: self.and(happy, !self.init()),
+            condemned: self.and(condemned, !self.init()),
+        }
+    }
+
+    /// Part 2: "OR of the incoming masked happy literals in edge order, init standing
+    /// first at the start vertex; then OR of the condemned ones."
+    fn gathered(&mut self, vertex: usize, masked: &[Tokens]) -> Tokens {
+        let init = (vertex == 0).then_some(self.init());
+        let incoming: Vec<Tokens> = (self.graph.edges.iter().zip(masked))
+            .filter(|(edge, _)| edge.to == vertex)
+            .map(|(_, tokens)| *tokens)
+            .collect();
+        let happy = incoming.iter().map(|tokens| tokens.happy);
+        let condemned = incoming.iter().map(|tokens| tokens.condemned);
+        Tokens {
+            happy: self.or_all(init.into_iter().chain(happy)),
+            condemned: self.or_all(condemned),
+        }
+    }
+
+    /// Part 3: "with the literals of its from-vertex: antecedent a, then consequent c.
+    /// Then p = a AND happy; happy-now = p AND c; q = p AND NOT c; r = a AND
+    /// condemned; the last gate is NOT q AND NOT r, and condemned-now is its inverse."
+    fn moved(&mut self, edge: &Edge, from: Tokens) -> Tokens {
+        let a = self.formula(&edge.antecedent);
+        let c = self.formula(&edge.consequent);
+        let p = self.and(a, from.happy);
+        let happy = self.and(p, c);
+        let q = self.and(p, !c);
+        let r = self.and(a, from.condemned);
+        let condemned = !self.and(!q, !r);
+        Tokens { happy, condemned }
+    }
+
+    /// "Operands left to right before their operator. `&` one gate; `|` one,
+    /// inverted; `^` three: both, neither, then neither of those; `=` as `^`, inverted."
+    fn formula(&mut self, formula: &Formula<Atom>) -> Literal {
+        match formula {
+            Formula::Bit(false) => Literal::FALSE,
+            Formula::Bit(true) => Literal::TRUE,
+            Formula::Name(Atom::Signal(index)) => self.signal(*index),
+            Formula::Name(Atom::Constant(index)) => self.constant(*index),
+            Formula::Not(inner) => !self.formula(inner),
+            Formula::Two(operator, left, right) => {
+                let left = self.formula(left);
+                let right = self.formula(right);
+                match operator {
+                    Operator::And => self.and(left, right),
+                    Operator::Or => self.or(left, right),
+                    Operator::Xor => self.xor(left, right),
+                    Operator::Alike => !self.xor(left, right),
+                }
+            }
+        }
+    }
+
+    fn xor(&mut self, left: Literal, right: Literal) -> Literal {
+        let both = self.and(left, right);
+        let neither = self.and(!left, !right);
+        self.and(!both, !neither)
+    }
+
+    /// Part 4: "AND of NOT condemned-now over terminal edges in order; none: literal 1."
+    fn accept(&mut self, now: &[Tokens]) -> Literal {
+        let terminal = self.graph.edges.iter().zip(now);
+        terminal
+            .filter(|(edge, _)| edge.terminal)
+            .map(|(_, tokens)| !tokens.condemned)
+            .reduce(|so_far, term| self.and(so_far, term))
+            .unwrap_or(Literal::TRUE)
+    }
+
+    /// "These feed the latches": constants keep themselves, edges take their tokens.
+    fn netlist(self, now: &[Tokens], accept: Literal) -> Netlist {
+        let constants = (0..self.graph.constants).map(|index| Latch {
+            next: self.constant(index),
+            reset: Reset::Uninitialised,
+        });
+        let tokens = now
+            .iter()
+            .flat_map(|tokens| [tokens.happy, tokens.condemned])
+            .map(|next| Latch {
+                next,
+                reset: Reset::Zero,
+            });
+        let count = |count: usize| count as u32;
+        Netlist {
+            header: Header {
+                variables: count(self.inputs() + self.latches() + self.gates.len()),
+                inputs: count(self.inputs()),
+                latches: count(self.latches()),
+                outputs: 1,
+                gates: count(self.gates.len()),
+            },
+            latches: constants.chain(tokens).collect(),
+            output: accept,
+            gates: self.gates,
+        }
+    }
+}
+
+fn literal(variable: usize) -> Literal {
+    Variable(variable as u32).literal()
+}
+
+#[cfg(test)]
+mod tests {
+    use super::*;
+    use crate::aiger::{read, write};
+    use crate::testing::{graph_text, lines_text, numbered, G};
+
+    fn built(graph: &str) -> (usize, Vec<u16>) {
+        let mut net = vec![0; 8_200];
+        let gates = build(&graph_text(graph), &mut net).unwrap();
+        (gates, net)
+    }
+
+    fn file(net: &[u16]) -> Vec<u8> {
+        let mut text = vec![0; 65_536];
+        let length = write(net, &mut text).unwrap();
+        text.truncate(length);
+        text
+    }
+
+    #[test]
+    fn file_of_g() {
+        let (gates, net) = built(G);
+        let due = "aag 12 3 2 1 7,2,4,6,8 18,10 25,24,12 8 3,14 10 3,16 4 2,18 16 6,20 16 7,22 4 0,24 23 21";
+        assert_eq!(file(&net), lines_text(due));
+        assert_eq!(gates, 7);
+        let mut back = vec![0; 24];
+        assert_eq!(read(&file(&net), &mut back).unwrap(), 24);
+        assert_eq!(back, net[..24]);
+    }
+
+    #[test]
+    fn seventeen_gates() {
+        assert_eq!(built(&format!("{G},E b b t p 1")).0, 17);
+    }
+
+    #[test]
+    fn no_terminal_edge() {
+        let (_, net) = built("S p,S q,V a,V b,E a b - p q");
+        assert_eq!(net[5 + 2 * 2], 1, "output literal");
+        let (gates, net) = built("V a");
+        assert_eq!((gates, &net[..6]), (0, &[1, 1, 0, 1, 0, 1][..]));
+    }
+
+    #[test]
+    fn gates_of_formulas() {
+        // Init 2, p 4; latches k 6, happy 8, condemned 10; gates from 12.
+        let (gates, net) = built("S p,K k,V a,E a a t p=k|!p 0^1");
+        let due = [
+            &[20, 2, 3, 1, 15][..],
+            &[6, 6, 34, 0, 41, 0, 40],
+            &[8, 3, 10, 3],            // masked: 12, 14
+            &[13, 3],                  // init OR 12: 17
+            &[7, 4],                   // k|!p: 19
+            &[19, 4, 18, 5, 23, 21],   // p=19: 25
+            &[1, 0, 1, 0, 29, 27],     // 0^1: 30
+            &[25, 17, 32, 30, 32, 31], // p 32, happy-now 34, q 36
+            &[25, 14, 39, 37],         // r 38, condemned-now 41
+        ]
+        .concat();
+        assert_eq!((gates, &net[..due.len()]), (15, &due[..]));
+    }
+
+    #[test]
+    fn m_at_and_over_4095() {
+        let bare = Graph::parse(&many_operators(0)).unwrap();
+        // Init and the edges' latches stand beside the gates.
+        let fixed = 1 + 2 * 128 + formula_of_gates(&bare);
+        let mut net = vec![0; 8_200];
+        let gates = build(&many_operators(4_095 - fixed), &mut net).unwrap();
+        assert_eq!((net[0], gates), (4_095, 4_095 - 257));
+        let refusal = build(&many_operators(4_096 - fixed), &mut net).unwrap_err();
+        assert_eq!(numbered(refusal), (11, 0));
+    }
+
+    /// 128 self-loops with this many `&` spread over their formulas.
+    fn many_operators(operators: usize) -> Vec<u8> {
+        let mut text = String::from("V\ta\n");
+        let mut left = operators;
+        for _ in 0..128 {
+            let here = left.min(100);
+            left -= here;
+            text += &format!("E\ta\ta\tt\t1{}\t1\n", "&1".repeat(here));
+        }
+        text.into_bytes()
+    }
+
+    #[test]
+    fn gates_made_are_the_formulas_and_under_the_bound() {
+        for graph in [
+            "V a",
+            "V a,E a a t 1 1",
+            "V a,V b,E b b - 1 1",
+            "S p,K k,V a,V b,E a b t p^k p=k=p,E a b - 1 p&!k,E b a t p|k 0,E b b - 1 1",
+        ] {
+            let parsed = Graph::parse(&graph_text(graph)).unwrap();
+            let gates = built(graph).0;
+            assert_eq!(gates, formula_of_gates(&parsed), "{graph}");
+            let operators = graph.matches(['&', '|', '^', '=']).count();
+            assert!(gates <= 10 * parsed.edges.len() + 3 * operators);
+        }
+    }
+
+    #[test]
+    fn refusals_leave_the_buffer() {
+        let mut net = [9; 23];
+        let refusal = build(&graph_text(G), &mut net).unwrap_err();
+        assert_eq!((numbered(refusal), net), ((12, 0), [9; 23]));
+        let refusal = build(&graph_text("S p,S p"), &mut net).unwrap_err();
+        assert_eq!((numbered(refusal), net), ((5, 2), [9; 23]));
+    }
+}

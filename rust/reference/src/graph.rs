@@ -1,0 +1,353 @@
+//! The graph text.
+
+use crate::formula::{self, is_name, Formula, MAX_DEPTH};
+use crate::lines::{lines, Line};
+use crate::refusal::{check_size, Cause, Refusal};
+
+const MAX_GRAPH_BYTES: usize = 32_768;
+const MAX_SIGNALS: usize = 63;
+const MAX_CONSTANTS: usize = 6;
+const MAX_VERTICES: usize = 64;
+const MAX_EDGES: usize = 128;
+
+/// What a name in a formula stands for.
+#[derive(Clone, Copy, Debug, PartialEq, Eq)]
+pub enum Atom {
+    Signal(usize),
+    Constant(usize),
+}
+
+#[derive(Clone, Debug, PartialEq, Eq)]
+pub struct Edge {
+    pub from: usize,
+    pub to: usize,
+    pub terminal: bool,
+    pub antecedent: Formula<Atom>,
+    pub consequent: Formula<Atom>,
+}
+
+/// An assertion graph: vertices by index, the first is the start.
+#[derive(Clone, Debug, PartialEq, Eq)]
+pub struct Graph {
+    pub signals: usize,
+    pub constants: usize,
+    pub vertices: usize,
+    pub edges: Vec<Edge>,
+}
+
+impl Graph {
+    /// Checks 1, then the lines, then 10.
+    pub fn parse(text: &[u8]) -> Result<Graph, Refusal> {
+        check_size(text, MAX_GRAPH_BYTES)?;
+        let mut draft = Draft::default();
+        for line in lines(text) {
+            draft.line(line).map_err(|cause| cause.at(line.number))?;
+        }
+        if draft.vertices.is_empty() {
+            return Err(Cause::NoVertex.no_line());
+        }
+        Ok(Graph {
+            signals: draft.signals.len(),
+            constants: draft.constants.len(),
+            vertices: draft.vertices.len(),
+            edges: draft.edges,
+        })
+    }
+}
+
+/// "Kinds in this order."
+#[derive(Clone, Copy, Debug, PartialEq, Eq, PartialOrd, Ord)]
+enum Kind {
+    Signal,
+    Constant,
+    Vertex,
+    Edge,
+}
+
+/// A line of some record's shape; its formulas are not yet looked at.
+enum Record<'a> {
+    Named(Kind, &'a [u8]),
+    Edge(EdgeFields<'a>),
+}
+
+struct EdgeFields<'a> {
+    from: &'a [u8],
+    to: &'a [u8],
+    terminal: bool,
+    antecedent: &'a [u8],
+    consequent: &'a [u8],
+}
+
+impl<'a> Record<'a> {
+    /// `None` if the line has no record's shape.
+    fn parse(line: Line<'a>) -> Option<Record<'a>> {
+        if !line.ended {
+            return None;
+        }
+        let fields: Vec<&[u8]> = line.bytes.split(|byte| *byte == b'\t').collect();
+        match fields[..] {
+            [b"S", name] if is_name(name) => Some(Record::Named(Kind::Signal, name)),
+            [b"K", name] if is_name(name) => Some(Record::Named(Kind::Constant, name)),
+            [b"V", name] if is_name(name) => Some(Record::Named(Kind::Vertex, name)),
+            [b"E", from, to, mark, antecedent, consequent] if is_name(from) && is_name(to) => {
+                Some(Record::Edge(EdgeFields {
+                    from,
+                    to,
+                    terminal: is_terminal(mark)?,
+                    antecedent,
+                    consequent,
+                }))
+            }
+            _ => None,
+        }
+    }
+
+    fn kind(&self) -> Kind {
+        match self {
+            Record::Named(kind, _) => *kind,
+            Record::Edge(_) => Kind::Edge,
+        }
+    }
+}
+
+/// "Mark `t` is terminal, `-` is not."
+fn is_terminal(mark: &[u8]) -> Option<bool> {
+    match mark {
+        b"t" => Some(true),
+        b"-" => Some(false),
+        _ => None,
+    }
+}
+
+/// The records of the lines read so far.
+#[derive(Default)]
+struct Draft<'a> {
+    last_kind: Option<Kind>,
+    signals: Vec<&'a [u8]>,
+    constants: Vec<&'a [u8]>,
+    vertices: Vec<&'a [u8]>,
+    edges: Vec<Edge>,
+}
+
+impl<'a> Draft<'a> {
+    /// Takes one line in. The checks stand in the order of their numbers, as
+    /// in one line the lower number decides.
+    fn line(&mut self, line: Line<'a>) -> Result<(), Cause> {
+        let record = Record::parse(line).ok_or(Cause::NoRecord)?;
+        let kind = record.kind();
+        if Some(kind) < self.last_kind {
+            return Err(Cause::KindOutOfOrder);
+        }
+        if self.is_full(kind) {
+            return Err(Cause::OneTooMany);
+        }
+        match record {
+            Record::Named(kind, name) => self.name(kind, name)?,
+            Record::Edge(fields) => {
+                let edge = self.edge(&fields)?;
+                self.edges.push(edge);
+            }
+        }
+        self.last_kind = Some(kind);
+        Ok(())
+    }
+
+    fn is_full(&self, kind: Kind) -> bool {
+        match kind {
+            Kind::Signal => self.signals.len() == MAX_SIGNALS,
+            Kind::Constant => self.constants.len() == MAX_CONSTANTS,
+            Kind::Vertex => self.vertices.len() == MAX_VERTICES,
+            Kind::Edge => self.edges.len() == MAX_EDGES,
+        }
+    }
+
+    /// "Signals and constants share one list of names; vertices have another."
+    fn name(&mut self, kind: Kind, name: &'a [u8]) -> Result<(), Cause> {
+        let repeated = match kind {
+            Kind::Vertex => self.vertex(name).is_some(),
+            _ => self.atom(name).is_some(),
+        };
+        if repeated {
+            return Err(Cause::NameRepeated);
+        }
+        match kind {
+            Kind::Signal => self.signals.push(name),
+            Kind::Constant => self.constants.push(name),
+            _ => self.vertices.push(name),
+        }
+        Ok(())
+    }
+
+    /// Over both formulas the lower number decides: grammar, then depth, then names.
+    fn edge(&self, fields: &EdgeFields) -> Result<Edge, Cause> {
+        let from = self.vertex(fields.from).ok_or(Cause::UnknownVertex)?;
+        let to = self.vertex(fields.to).ok_or(Cause::UnknownVertex)?;
+        let antecedent = formula::parse(fields.antecedent).ok_or(Cause::NotAFormula)?;
+        let consequent = formula::parse(fields.consequent).ok_or(Cause::NotAFormula)?;
+        if antecedent.depth > MAX_DEPTH || consequent.depth > MAX_DEPTH {
+            return Err(Cause::TooDeep);
+        }
+        let look_up = |name: &[u8]| self.atom(name);
+        Ok(Edge {
+            from,
+            to,
+            terminal: fields.terminal,
+            antecedent: antecedent.formula.resolve(&look_up)?,
+            consequent: consequent.formula.resolve(&look_up)?,
+        })
+    }
+
+    fn vertex(&self, name: &[u8]) -> Option<usize> {
+        position(&self.vertices, name)
+    }
+
+    fn atom(&self, name: &[u8]) -> Option<Atom> {
+        position(&self.signals, name)
+            .map(Atom::Signal)
+            .or_else(|| position(&self.constants, name).map(Atom::Constant))
+    }
+}
+
+fn position(names: &[&[u8]], name: &[u8]) -> Option<usize> {
+    names.iter().position(|other| *other == name)
+}
+
+#[cfg(test)]
+mod tests {
+    use super::*;
+    use crate::testing::{graph_text, numbered};
+
+    /// The refusal of a graph written with blanks for tabs and commas for LFs.
+    fn refused(graph: &str) -> (u8, u32) {
+        numbered(Graph::parse(&graph_text(graph)).unwrap_err())
+    }
+
+    fn accepted(graph: &str) -> Graph {
+        Graph::parse(&graph_text(graph)).unwrap()
+    }
+
+    #[test]
+    fn records() {
+        let graph = accepted("S p,K k,V a,V b,E a b t p k,E b b - 1 !p");
+        assert_eq!((graph.signals, graph.constants, graph.vertices), (1, 1, 2));
+        let edge = &graph.edges[0];
+        assert_eq!((edge.from, edge.to, edge.terminal), (0, 1, true));
+        assert_eq!(edge.antecedent, Formula::Name(Atom::Signal(0)));
+        assert_eq!(edge.consequent, Formula::Name(Atom::Constant(0)));
+        assert!(!graph.edges[1].terminal);
+    }
+
+    #[test]
+    fn lists_of_names() {
+        assert_eq!(accepted("S a,V a").signals, 1);
+        assert_eq!(refused("S a,S b,S a,V v"), (5, 3));
+        assert_eq!(refused("S a,K a,V v"), (5, 2));
+        assert_eq!(refused("V v,V v"), (5, 2));
+    }
+
+    #[test]
+    fn lines_of_no_shape() {
+        for line in [
+            "",
+            "S",
+            "S ",
+            "S 1",
+            "S p q",
+            "s p",
+            "X p",
+            " S p",
+            "S p ",
+            "S p\r",
+            "V _a",
+            "E a a t 1",
+            "E a a t 1 1 1",
+            "E a a T 1 1",
+            "E a a  1 1",
+            "E a 1 t 1 1",
+            "E  a t 1 1",
+            "S\u{b}p",
+        ] {
+            assert_eq!(refused(&format!("V a,{line}")), (2, 2), "{line:?}");
+        }
+        assert_eq!(numbered(Graph::parse(b"V\ta\nV\tb").unwrap_err()), (2, 2));
+        assert_eq!(numbered(Graph::parse(b"V\ta\nS").unwrap_err()), (2, 2));
+    }
+
+    #[test]
+    fn name_lengths() {
+        let name = "abcdefghijklmno";
+        assert_eq!(name.len(), 15);
+        assert_eq!(accepted(&format!("S {name},V a")).signals, 1);
+        assert_eq!(refused(&format!("S {name}p,V a")), (2, 1));
+        assert_eq!(refused(&format!("V a,E a {name}p t 1 1")), (2, 2));
+        assert_eq!(refused(&format!("V a,E a a t {name}p 1")), (7, 2));
+    }
+
+    #[test]
+    fn kinds_in_order() {
+        assert_eq!(refused("S p,V a,K k"), (3, 3));
+        assert_eq!(refused("V a,S p"), (3, 2));
+        assert_eq!(refused("V a,E a a t 1 1,V b"), (3, 3));
+    }
+
+    #[test]
+    fn counts() {
+        let many = |kind: &str, count: usize| -> String {
+            (0..count).map(|i| format!("{kind} n{i},")).collect()
+        };
+        assert_eq!(accepted(&format!("{}V a", many("S", 63))).signals, 63);
+        assert_eq!(refused(&format!("{}V a", many("S", 64))), (4, 64));
+        assert_eq!(accepted(&format!("{}V a", many("K", 6))).constants, 6);
+        assert_eq!(refused(&format!("{}V a", many("K", 7))), (4, 7));
+        assert_eq!(accepted(many("V", 64).trim_end_matches(',')).vertices, 64);
+        assert_eq!(refused(many("V", 65).trim_end_matches(',')), (4, 65));
+        let edges = |count: usize| format!("V a{}", ",E a a t 1 1".repeat(count));
+        assert_eq!(accepted(&edges(128)).edges.len(), 128);
+        assert_eq!(refused(&edges(129)), (4, 130));
+    }
+
+    #[test]
+    fn edges() {
+        assert_eq!(refused("V a,E a b t 1 1"), (6, 2));
+        assert_eq!(refused("V a,E b a t 1 1"), (6, 2));
+        assert_eq!(refused("E a a t 1 1"), (6, 1));
+        assert_eq!(refused("V a,E a a t 10 1"), (7, 2));
+        assert_eq!(refused("V a,E a a t  1"), (7, 2));
+        assert_eq!(refused("V a,E a a t 1 "), (7, 2));
+        assert_eq!(refused("V a,E a a t 1 1\r"), (7, 2));
+        assert_eq!(refused("V a,E a a t p 1"), (9, 2));
+        let nots = |count: usize| format!("V a,E a a t {}1 1", "!".repeat(count));
+        assert_eq!(accepted(&nots(16)).edges.len(), 1);
+        assert_eq!(refused(&nots(17)), (8, 2));
+    }
+
+    #[test]
+    fn the_first_faulty_line_decides_and_in_it_the_lower_number() {
+        let deep = "!".repeat(17);
+        assert_eq!(refused("V a,E a a t p 1,X"), (9, 2));
+        assert_eq!(refused("V a,E b a t 10 1"), (6, 2));
+        assert_eq!(refused(&format!("V a,E a a t {deep}1 10")), (7, 2));
+        assert_eq!(refused(&format!("V a,E a a t p {deep}1")), (8, 2));
+        assert_eq!(refused(&format!("V a,E a a t {deep}p 1")), (8, 2));
+        assert_eq!(
+            refused(&format!("V a{},E b a t 10 1", ",E a a t 1 1".repeat(128))),
+            (4, 130)
+        );
+        assert_eq!(refused("K a,K b,K c,K d,K e,K f,K a"), (4, 7));
+        assert_eq!(refused("S p,V a,S p"), (3, 3));
+    }
+
+    #[test]
+    fn whole_text() {
+        assert_eq!(numbered(Graph::parse(b"").unwrap_err()), (10, 0));
+        assert_eq!(refused("S p,K k"), (10, 0));
+        assert_eq!(
+            numbered(Graph::parse(&[b'\n'; 32_768]).unwrap_err()),
+            (2, 1)
+        );
+        assert_eq!(
+            numbered(Graph::parse(&[b'\n'; 32_769]).unwrap_err()),
+            (1, 0)
+        );
+    }
+}

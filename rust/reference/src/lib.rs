@@ -1,0 +1,26 @@
+//! Document 01 once more, in plain safe Rust, written from its sentences alone.
+//!
+//! Nothing here is proved and nothing is meant to be fast: each module follows
+//! the document's wording closely enough to be read beside it. The proved
+//! library is compared with this crate by the program `differential`.
+
+mod aiger;
+mod builder;
+mod formula;
+mod graph;
+mod lines;
+mod netlist;
+mod paths;
+mod refusal;
+mod simulator;
+#[cfg(test)]
+mod testing;
+
+pub use aiger::{read, write};
+pub use builder::{build, formula_of_gates};
+pub use formula::{Formula, Operator};
+pub use graph::{Atom, Edge, Graph};
+pub use netlist::{Gate, Header, Latch, Literal, Netlist, Reset, Variable};
+pub use paths::rejected_cycles;
+pub use refusal::{Cause, Refusal};
+pub use simulator::{run, start, step, Tally, Verdict};

@@ -1,0 +1,82 @@
+-- The table of document 01's starred examples: what the two programs print of each, by the definitions. Assumes
+-- nothing.
+use mathlib.Core.Path.{_≡_, refl}
+use mathlib.Core.List.{List, [], _∷_, map}
+use Prim.Native.String.{String}
+use Rattle.assertion.specs.Graph.{Bytes}
+use Rattle.text.specs.Numbers as numbers
+use Rattle.formula.specs.Classes as classes
+use Rattle.formula.specs.Grammar as grammar
+use Rattle.assertion.specs.Graph as graph
+use Rattle.assertion.specs.Paths as paths
+use Rattle.graph.specs.Pieces as pieces
+use Rattle.graph.specs.Records as records
+use Rattle.graph.specs.Reading as reading
+use Rattle.netlist.specs.Literals as literals
+use Rattle.circuit.specs.Gates as gates
+use Rattle.circuit.specs.Build as monitor
+use Rattle.circuit.specs.Numbers as circuit
+use Rattle.builder.specs.Build as build
+use Rattle.aiger.specs.Rows as rows
+use Rattle.aiger.specs.Format as format
+use Rattle.simulator.specs.Traces as traces
+use Rattle.simulator.specs.Run as run
+use Rattle.page.specs.Parts as parts
+use Rattle.page.specs.Lines as lines
+use Rattle.page.specs.Pages as pages
+use Rattle.page.specs.Pages.{monitorText, aigerText}
+use Rattle.page.proofs.Letters.{bytes}
+
+-- an input and what is printed of it
+record Row : Type 0 where
+  input : Bytes
+  page : Bytes
+
+abbrev row : String → String → Row
+row i p = record { input = bytes i; page = bytes p }
+
+-- each row's page, by a program and as the table has it
+record Printed : Type 0 where
+  found : List Bytes
+  due : List Bytes
+
+abbrev printed : (Bytes → Bytes) → List Row → Printed
+printed program rows = record { found = map (λ r. program (r .input)) rows; due = map (λ r. r .page) rows }
+
+-- ---- the monitor program
+abbrev monitorRows : List Row
+monitorRows =
+    -- graph G on 110, 111, 010
+    row "S\tp\nS\tq\nV\ta\nV\tb\nE\ta\tb\tt\tp\tq\nT\n110\n111\n010\n" "R\t1\nsum\t3\t1\taccepted\n"
+    -- G with `E b b t p 1` on 110, 011, 001: 1 and 2 only
+    ∷ row "S\tp\nS\tq\nV\ta\nV\tb\nE\ta\tb\tt\tp\tq\nE\tb\tb\tt\tp\t1\nT\n110\n011\n001\n" "R\t1\nR\t2\nsum\t3\t2\taccepted\n"
+    -- a constant, tried both ways: `k`/`p` on 10 and on 11
+    ∷ row "S\tp\nK\tk\nV\ta\nE\ta\ta\tt\tk\tp\nT\n10\n" "R\t1\nsum\t1\t1\trejected\n"
+    ∷ row "S\tp\nK\tk\nV\ta\nE\ta\ta\tt\tk\tp\nT\n11\n" "sum\t1\t0\taccepted\n"
+    -- G without init
+    ∷ row "S\tp\nS\tq\nV\ta\nV\tb\nE\ta\tb\tt\tp\tq\nT\n010\n" "sum\t1\t0\taccepted\n"
+    -- as a consequent, `p|q&r` at 1,0,0 is 1, and `p=q=r` at 0,0,0 is 0
+    ∷ row "S\tp\nS\tq\nS\tr\nV\ta\nE\ta\ta\tt\t1\tp|q&r\nT\n1100\n" "sum\t1\t0\taccepted\n"
+    ∷ row "S\tp\nS\tq\nS\tr\nV\ta\nE\ta\ta\tt\t1\tp=q=r\nT\n1000\n" "R\t1\nsum\t1\t1\trejected\n"
+    -- `10` is no formula
+    ∷ row "V\ta\nE\ta\ta\tt\t10\t1\nT\n1\n" "refused\t7\t2\n"
+    ∷ []
+
+-- ---- the program that prints AIGER
+abbrev aigerRows : List Row
+aigerRows =
+    -- G's file
+    row "S\tp\nS\tq\nV\ta\nV\tb\nE\ta\tb\tt\tp\tq\n"
+    "aag 12 3 2 1 7\n2\n4\n6\n8 18\n10 25\n24\n12 8 3\n14 10 3\n16 4 2\n18 16 6\n20 16 7\n22 4 0\n24 23 21\n"
+    -- G with `E b b t p 1`: 17 gates
+    ∷ row "S\tp\nS\tq\nV\ta\nV\tb\nE\ta\tb\tt\tp\tq\nE\tb\tb\tt\tp\t1\n"
+    "aag 24 3 4 1 17\n2\n4\n6\n8 30\n10 37\n12 40\n14 47\n48\n16 8 3\n18 10 3\n20 12 3\n22 14 3\n24 21 17\n26 23 19\n28 4 2\n30 28 6\n32 28 7\n34 4 0\n36 35 33\n38 25 4\n40 38 1\n42 38 0\n44 27 4\n46 45 43\n48 46 36\n"
+    -- no terminal edge: output literal 1
+    ∷ row "S\tp\nS\tq\nV\ta\nV\tb\nE\ta\tb\t-\tp\tq\n"
+    "aag 12 3 2 1 7\n2\n4\n6\n8 18\n10 25\n1\n12 8 3\n14 10 3\n16 4 2\n18 16 6\n20 16 7\n22 4 0\n24 23 21\n"
+    ∷ []
+
+-- both programs print what the table says
+tables-hold : (printed monitorText monitorRows .found ≡ printed monitorText monitorRows .due) × (printed aigerText aigerRows .found ≡ printed aigerText aigerRows .due)
+unfolding numbers.digitsOf numbers.digits classes.classOf classes.strengthOf classes.isLetter classes.isWordClass classes.startOf classes.run classes.nameBytes classes.isName grammar.andThen grammar.nameOf grammar.closed grammar.whole grammar.treeOf grammar.depthOf grammar.operandOf grammar.expressionOf grammar.restOf graph.isTerminal graph.input graph.isInit graph.holds paths.rejectsAlong paths.rejectedUnder paths.isRejected paths.countRejected pieces.onto pieces.split pieces.same pieces.placeOf pieces.lookUp records.named records.marked records.edged records.ofFields records.recordOf reading.faultNumber reading.refusalOf reading.known reading.joined reading.symbol reading.resolved reading.judgedTree reading.treeExpr reading.lower reading.addSignal reading.addConstant reading.addVertex reading.edgeOf reading.unlessFaulty reading.judgeEdge reading.addEdge reading.add reading.finished reading.readLines reading.graphOf literals.literalOf literals.variableOf literals.isInverted gates.inv gates.gate monitor.firstEdgeLatch monitor.firstGate monitor.formula monitor.happyOr monitor.condemnedOr monitor.edgePiece monitor.masked monitor.gathered monitor.judged monitor.accepted monitor.gatesOf circuit.numbersOf build.refusalOf build.variablesOf rows.line rows.headerRow rows.literalRow rows.latchRow rows.gateRow format.inputLine format.latchLine format.outputLine format.gateLine format.fileWith format.fileOf traces.isBit traces.fitsLine traces.faultFrom traces.faultOf traces.lineCount traces.cyclesFrom traces.cyclesOf run.verdictOf parts.bytesBefore parts.graphPart parts.tracePart lines.field lines.refusedLine lines.rejectedLine lines.verdictField lines.sumLine lines.cycleLine lines.report pages.graphPage pages.inputsOf pages.judgement pages.tracePage pages.monitorText pages.aigerText
+tables-hold = (refl, refl)

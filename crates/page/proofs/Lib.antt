@@ -1,0 +1,10 @@
+-- The laws that belong to no one function.
+mod PartLaws
+mod PageLaws
+mod BuildLaws
+mod JudgedLaws
+mod SizeLaws
+mod LengthLaws
+mod AnswerLaws
+mod Letters
+mod Examples

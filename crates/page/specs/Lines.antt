@@ -1,0 +1,40 @@
+-- The lines of a page: fields parted by tabs, each line ended by LF. Assumes nothing.
+use mathlib.Core.Bool.{cond}
+use mathlib.Core.List.{List, [], _∷_, _++_}
+use Prim.Native.Nat.{ℕ, _+_}
+use lib.Dec.{eqb}
+use lib.ListN.{length, getD}
+use Rattle.text.specs.declared.Refusal.{Refusal}
+use Rattle.text.specs.Numbers.{digits}
+use Rattle.text.specs.Writer.{joined}
+use Rattle.simulator.specs.declared.outcome.Verdict.{Verdict}
+use Rattle.simulator.specs.declared.outcome.Verdict.the-variants.{Accepted, Rejected}
+
+-- a field, and a number after a tab
+unfoldable pub field : ℕ → List ℕ
+field n = 9 ∷ digits n
+
+-- `refused`, number, line
+unfoldable pub refusedLine : Refusal → List ℕ
+refusedLine r = (114 ∷ 101 ∷ 102 ∷ 117 ∷ 115 ∷ 101 ∷ 100 ∷ []) ++ (field (r .number) ++ (field (r .line) ++ (10 ∷ [])))
+
+-- `R`, cycle
+unfoldable pub rejectedLine : ℕ → List ℕ
+rejectedLine cycle = (82 ∷ []) ++ (field cycle ++ (10 ∷ []))
+
+-- a tab and the word of a verdict, with the line's LF: `accepted`, `rejected`
+unfoldable pub verdictField : Verdict → List ℕ
+verdictField Accepted = 9 ∷ 97 ∷ 99 ∷ 99 ∷ 101 ∷ 112 ∷ 116 ∷ 101 ∷ 100 ∷ 10 ∷ []
+verdictField Rejected = 9 ∷ 114 ∷ 101 ∷ 106 ∷ 101 ∷ 99 ∷ 116 ∷ 101 ∷ 100 ∷ 10 ∷ []
+
+-- `sum`, cycles, rejected, verdict
+unfoldable pub sumLine : ℕ → ℕ → Verdict → List ℕ
+sumLine cycles rejected verdict = (115 ∷ 117 ∷ 109 ∷ []) ++ (field cycles ++ (field rejected ++ verdictField verdict))
+
+-- the line of cycle k, from 0, where its verdict byte is 1; cycles are printed from 1
+unfoldable pub cycleLine : List ℕ → ℕ → List ℕ
+cycleLine bytes k = cond (eqb (getD bytes k 0) 1) (rejectedLine (k + 1)) []
+
+-- a line for each rejected cycle, by the verdict bytes, then the sum
+unfoldable pub report : List ℕ → ℕ → ℕ → Verdict → List ℕ
+report bytes cycles rejected verdict = joined (cycleLine bytes) (length bytes) ++ sumLine cycles rejected verdict

@@ -1,0 +1,74 @@
+-- The pages of the two programs. A refusal of what a page needs is the page's text; a page itself is refused only
+-- where it does not fit into the buffer. Which cycles are rejected is said by paths. Assumes nothing.
+use mathlib.Core.Bool.{cond}
+use mathlib.Core.List.{List, [], _++_}
+use Prim.Native.Nat.{ℕ, _+_}
+use lib.Dec.{eqb, leb}
+use lib.ListN.{length, drop}
+use Rattle.text.specs.declared.Refusal.{Refusal}
+use Rattle.assertion.specs.Graph.{Bytes, Graph}
+use Rattle.assertion.specs.Paths.{verdicts, countRejected}
+use Rattle.graph.specs.Reading.{Outcome, refused, accepted, graphOf}
+use Rattle.circuit.specs.Numbers.{numbersOf}
+use Rattle.builder.specs.Build as build
+use Rattle.builder.specs.Build.{variablesOf}
+use Rattle.builder.specs.declared.Cause.the-variants.{GraphText, TooManyVariables}
+use Rattle.aiger.specs.Format.{fileOf}
+use Rattle.simulator.specs.Traces.{faultOf, cyclesOf}
+use Rattle.simulator.specs.Run.{verdictOf}
+use Rattle.simulator.specs.Refusals as simulator
+use Rattle.simulator.specs.declared.refusal.Cause.the-variants.{WrongLine}
+use Rattle.page.specs.Parts.{graphPart, tracePart}
+use Rattle.page.specs.Lines.{refusedLine, report}
+use Rattle.page.specs.declared.Cause.{Cause}
+use Rattle.page.specs.declared.Cause.the-variants.{InputTooLong, ShortBuffer}
+use Rattle.page.specs.declared.Paged.{Paged}
+use Rattle.page.specs.declared.Paged.the-variants as paged
+
+-- the number and line of each cause
+unfoldable pub refusalOf : Cause → Refusal
+refusalOf InputTooLong = record { number = 1; line = 0 }
+refusalOf ShortBuffer = record { number = 12; line = 0 }
+
+-- the page of a graph text: refused as build refuses it, else what is printed of its graph
+unfoldable pub graphPage : Outcome → (Graph → Bytes) → Bytes
+graphPage (refused cause) print = refusedLine (build.refusalOf (GraphText cause))
+graphPage (accepted g) print = cond (leb (variablesOf g) 4095) (print g) (refusedLine (build.refusalOf TooManyVariables))
+
+-- ---- the monitor program
+-- inputs are init, then the signals
+unfoldable pub inputsOf : Graph → ℕ
+inputsOf g = 1 + length (g .signals)
+
+-- the cycles that some setting and some rejecting path condemn, and the sum
+unfoldable pub judgement : Graph → List Bytes → Bytes
+judgement g cycles = let bytes = verdicts g [] cycles in report bytes (length cycles) (countRejected g cycles) (verdictOf bytes)
+
+-- trace lines count from 1 after `T`
+unfoldable pub tracePage : Bytes → Graph → Bytes
+tracePage trace g =
+    let fault = faultOf (inputsOf g) trace in
+    cond (eqb fault 0) (judgement g (cyclesOf (inputsOf g) trace)) (refusedLine (simulator.refusalOf (WrongLine fault)))
+
+unfoldable pub monitorText : Bytes → Bytes
+monitorText input =
+    cond (leb (length input) 65536)
+    (graphPage (graphOf (graphPart input)) (tracePage (tracePart input)))
+    (refusedLine (refusalOf InputTooLong))
+
+-- ---- the program that prints AIGER: its whole input is a graph text
+unfoldable pub aigerText : Bytes → Bytes
+aigerText input = graphPage (graphOf input) (λ g. fileOf (numbersOf g))
+
+-- ---- a page in a lent buffer, which keeps its surplus; refused with 12 where it is too short
+pub record PageEnd : Type 0 where
+  pub answer : Paged
+  pub out : List ℕ
+
+abbrev pub pageEnd : Paged → List ℕ → PageEnd
+pageEnd r o = record { answer = r; out = o }
+
+unfoldable pub pageOf : Bytes → List ℕ → PageEnd
+pageOf page out =
+    cond (leb (length page) (length out)) (pageEnd (paged.Bytes (length page)) (page ++ drop (length page) out))
+    (pageEnd (paged.Refused ShortBuffer) out)

@@ -1,0 +1,191 @@
+// The pages of the two programs, as functions on slices: the monitor's judgement of a trace, and the AIGER file of
+// a graph. A refusal of what a page needs is the page's text; a page itself is refused only where the buffer is too
+// short for it. Knows nothing of where its bytes come from or go to. Exports that the monitor's page names exactly
+// the cycles that some setting and some rejecting path condemn.
+use aiger::Written;
+use builder::Built;
+use lines::put_refusal;
+use lines::put_report;
+use parts::graph_length;
+use simulator::Ran;
+use simulator::RunOutcome;
+use simulator::Tally;
+use simulator::Verdict;
+use text::Refusal;
+ghost use mathlib.Core.Path.{_≡_};
+ghost use Prim.Native.Nat.{_≤_};
+ghost use lib.ListN.{length};
+ghost use Rattle.aiger.specs.Format.{fileOf};
+ghost use Rattle.netlist.specs.Valid.{isNetlist};
+ghost use Rattle.page.specs.Lines.{refusedLine, report};
+ghost use Rattle.page.specs.Pages.{refusalOf, graphPage, tracePage, pageEnd, pageOf, monitorText, aigerText};
+ghost use Rattle.graph.specs.Reading.{graphOf};
+ghost use mathlib.Core.Bool.{true};
+ghost use Rattle.page.specs.Machine.{outcomePage, machinePage};
+
+mod lines;
+mod parts;
+
+// The longest input of a program.
+const MAX_INPUT: usize = 65536;
+
+// The most numbers of a netlist: five, two for each latch and gate, of which M = 4,095 leaves 4,094, and one for
+// the output.
+const MAX_NUMBERS: usize = 8194;
+
+// The most latch words and value words of a netlist, and the most cycles of a trace in a program's input, whose
+// lines have two bytes at least.
+const MAX_LATCHES: usize = 4095;
+
+const MAX_VALUES: usize = 4096;
+
+const MAX_CYCLES: usize = 32768;
+
+pub enum Cause {
+    // The program's input is over 65,536 bytes. This one is only ever the text of a page.
+    InputTooLong,
+    // The buffer is shorter than the page.
+    ShortBuffer,
+}
+
+// What a page function answers.
+pub enum Paged {
+    // How many bytes the page has.
+    Bytes(usize),
+    Refused(Cause),
+}
+
+impl Cause {
+    // The number and line in which a refusal is reported.
+    pub fn refusal(self) -> Refusal
+        ensures { λ r. ⌜ r ≡ refusalOf self ⌝ }
+    {
+        match self {
+            Cause::InputTooLong => Refusal { number: 1, line: 0 },
+            Cause::ShortBuffer => Refusal {
+                number: 12,
+                line: 0,
+            },
+        }
+    }
+}
+
+// The page of a refusal. Like every page it is measured first, so that the buffer stays as it was where it is too
+// short.
+fn refused_page(out: &mut [u8], refusal: Refusal) -> Paged
+    ensures { λ r. ⌜ pageEnd r (now (out .exit)) ≡ pageOf (refusedLine refusal) (now (out .entry)) ⌝ }
+{
+    let need = put_refusal(&mut out[..0], 0, refusal);
+    if need > out.len() {
+        return Paged::Refused(Cause::ShortBuffer);
+    }
+    let end = put_refusal(out, 0, refusal);
+    Paged::Bytes(end)
+}
+
+// The page of a run with these verdict bytes.
+fn report_page(out: &mut [u8], bytes: &[u8], tally: Tally, verdict: Verdict) -> Paged
+    ensures { λ r. ⌜ pageEnd r (now (out .exit)) ≡ pageOf (report (now (bytes .entry)) (tally .cycles) (tally .rejected) verdict) (now (out .entry)) ⌝ }
+{
+    let need = put_report(&mut out[..0], 0, bytes, tally, verdict);
+    if need > out.len() {
+        return Paged::Refused(Cause::ShortBuffer);
+    }
+    let end = put_report(out, 0, bytes, tally, verdict);
+    Paged::Bytes(end)
+}
+
+// The page of what a run answered and left in its verdict buffer.
+fn outcome_page(out: &mut [u8], ran: Ran, verdicts: &[u8]) -> Paged
+    ensures { λ r. ⌜ pageEnd r (now (out .exit)) ≡ pageOf (outcomePage (ran .outcome) (ran .tally) (now (verdicts .entry))) (now (out .entry)) ⌝ }
+{
+    let outcome = ran.outcome;
+    let tally = ran.tally;
+    let cycles = tally.cycles as usize;
+    let end = if cycles < verdicts.len() {
+        cycles
+    } else {
+        verdicts.len()
+    };
+    match outcome {
+        RunOutcome::Done(verdict) => report_page(out, &verdicts[..end], tally, verdict),
+        RunOutcome::Refused(cause) => refused_page(out, cause.refusal()),
+    }
+}
+
+// The page of a netlist's run over a trace.
+fn machine_page(out: &mut [u8], net: &[u16], trace: &[u8]) -> Paged
+    ensures { λ r. ⌜ pageEnd r (now (out .exit)) ≡ pageOf (machinePage (now (net .entry)) (now (trace .entry))) (now (out .entry)) ⌝ }
+{
+    let mut latches = [0u64; MAX_LATCHES];
+    let mut values = [0u64; MAX_VALUES];
+    let mut verdicts = [0u8; MAX_CYCLES];
+    let tally = Tally {
+        cycles: 0,
+        rejected: 0,
+    };
+    let started = simulator::start(net, &mut latches, tally);
+    let ran = simulator::run(
+        net,
+        trace,
+        &mut latches,
+        &mut values,
+        &mut verdicts,
+        started.tally,
+    );
+    outcome_page(out, ran, &verdicts)
+}
+
+// The page of a graph text and a trace.
+fn judged_page(out: &mut [u8], graph: &[u8], trace: &[u8]) -> Paged
+    requires { ⌜ length (now trace) ≤ 65536 ⌝ }
+    ensures { λ r. ⌜ pageEnd r (now (out .exit)) ≡ pageOf (graphPage (graphOf (now (graph .entry))) (tracePage (now (trace .entry)))) (now (out .entry)) ⌝ }
+{
+    let mut net = [0u16; MAX_NUMBERS];
+    let built = builder::build(graph, &mut net);
+    match built {
+        Built::Gates(_) => machine_page(out, &net, trace),
+        Built::Refused(cause) => refused_page(out, cause.refusal()),
+    }
+}
+
+// The page of the monitor program: graph, a line `T`, trace. It prints the rejected cycles and the sum, or the
+// refusal.
+pub fn monitor_page(input: &[u8], out: &mut [u8]) -> Paged
+    ensures { λ r. ⌜ pageEnd r (now (out .exit)) ≡ pageOf (monitorText (now (input .entry))) (now (out .entry)) ⌝ }
+    ensures fits { λ _. ⌜ length (monitorText (now (input .entry))) ≤ 250991 ⌝ }
+{
+    if input.len() > MAX_INPUT {
+        let cause = Cause::InputTooLong;
+        return refused_page(out, cause.refusal());
+    }
+    let end = graph_length(input);
+    let at = if end < input.len() { end + 2 } else { end };
+    judged_page(out, &input[..end], &input[at..])
+}
+
+// The file of a netlist as a page.
+fn file_page(out: &mut [u8], net: &[u16]) -> Paged
+    requires { ⌜ isNetlist (now net) ≡ true ⌝ }
+    ensures { λ r. ⌜ pageEnd r (now (out .exit)) ≡ pageOf (fileOf (now (net .entry))) (now (out .entry)) ⌝ }
+{
+    let written = aiger::write(net, out);
+    match written {
+        Written::Bytes(end) => Paged::Bytes(end),
+        Written::Refused(_) => Paged::Refused(Cause::ShortBuffer),
+    }
+}
+
+// The page of the program that prints AIGER: its whole input is a graph text. It prints the file of the monitor's
+// netlist, or the refusal.
+pub fn aiger_page(input: &[u8], out: &mut [u8]) -> Paged
+    ensures { λ r. ⌜ pageEnd r (now (out .exit)) ≡ pageOf (aigerText (now (input .entry))) (now (out .entry)) ⌝ }
+    ensures fits { λ _. ⌜ length (aigerText (now (input .entry))) ≤ 65536 ⌝ }
+{
+    let mut net = [0u16; MAX_NUMBERS];
+    let built = builder::build(input, &mut net);
+    match built {
+        Built::Gates(_) => file_page(out, &net),
+        Built::Refused(cause) => refused_page(out, cause.refusal()),
+    }
+}

@@ -1,0 +1,24 @@
+// The parts of the monitor program's input.
+ghost use mathlib.Core.Path.{_≡_};
+ghost use Rattle.page.specs.Parts.{graphLength};
+
+// How many bytes stand before the first line `T`, or all where there is none.
+pub(crate) fn graph_length(input: &[u8]) -> usize
+    ensures { λ r. ⌜ r ≡ graphLength (now (input .entry)) ⌝ }
+{
+    let mut starts = true;
+    let mut i = 0;
+    while i < input.len() {
+        let b = input[i];
+        if starts {
+            if b == b'T' {
+                if text::byte_at(input, i + 1) == b'\n' {
+                    return i;
+                }
+            }
+        }
+        starts = b == b'\n';
+        i += 1;
+    }
+    i
+}

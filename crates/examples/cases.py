@@ -1,0 +1,114 @@
+#!/usr/bin/env python3
+"""Writes stdin and stdout of the program examples beside this file: document 01's bench examples of graphs, and
+examples of AIGER files, each with its answer. The answers are written here by hand; nothing is computed by the program.
+
+An example in stdin is five fields, each a line with its length and then that many bytes: name, text, the text when it is
+written again where that differs, trace, answer. In stdout it is a line: name, answer and `ok`, parted by tabs."""
+import os
+
+here = os.path.dirname(os.path.abspath(__file__))
+examples = []
+
+
+def lines(*records):
+    """Records with blanks for tabs, one a line."""
+    return b"".join(r.replace(" ", "\t").encode() + b"\n" for r in records)
+
+
+def rows(file):
+    """The lines of a file, parted here by commas."""
+    return b"".join(line.strip().encode() + b"\n" for line in file.split(","))
+
+
+def graph(name, text, answer):
+    examples.append(("graph: " + name, text, b"", b"", answer))
+
+
+def runs(name, file, trace, verdicts, again=None):
+    """A file within document 01's subset. A verdict is 1, rejected, where the output is 0 under some start of the
+    uninitialised latches."""
+    how = "resets 0 left out" if again else "same text"
+    examples.append(("file: " + name, rows(file), rows(again) if again else b"", rows(trace), f"{how}, {verdicts}"))
+
+
+def refused(name, file, number, line):
+    """A file outside it."""
+    examples.append(("file: " + name, rows(file), b"", b"", f"refused {number} {line}"))
+
+
+# ---- document 01's bench examples of graphs
+def formula(f):
+    return lines("S p", "V a", f"E a a t {f} 1")
+
+
+G = ["S p", "S q", "V a", "V b", "E a b t p q"]
+graph("G", lines(*G), "7 gates")
+graph("G with a second edge", lines(*G, "E b b t p 1"), "17 gates")
+graph("16 nots", formula("!" * 16 + "p"), "8 gates")
+graph("17 nots", formula("!" * 17 + "p"), "refused 8 3")
+graph("a signal of 15 bytes", lines("S " + "s" * 15, "V a"), "0 gates")
+graph("a signal of 16 bytes", lines("S " + "s" * 16, "V a"), "refused 2 1")
+# 7 x 128 for the edges, 128 and 127 to join what comes in at the one vertex, 127 for accept
+graph("128 edges", lines("V a", *["E a a t 1 1"] * 128), "1278 gates")
+graph("129 edges", lines("V a", *["E a a t 1 1"] * 129), "refused 4 130")
+
+# ---- the examples of "The AIGER And-Inverter Graph Format". Within the subset: one output, inputs, M = I + L + A,
+# variables in order, larger operand first, nothing after the last gate.
+refused("empty circuit: no input, no output", "aag 0 0 0 0 0", 14, 1)
+refused("constant false: no input", "aag 0 0 0 1 0, 0", 14, 1)
+refused("constant true: no input", "aag 0 0 0 1 0, 1", 14, 1)
+runs("buffer", "aag 1 1 0 1 0, 2, 2", "0, 1", "10")
+runs("inverter", "aag 1 1 0 1 0, 2, 3", "0, 1", "01")
+refused("and gate: smaller operand first", "aag 3 2 0 1 1, 2, 4, 6, 6 2 4", 14, 5)
+refused("or gate: smaller operand first", "aag 3 2 0 1 1, 2, 4, 7, 6 3 5", 14, 5)
+refused("half adder: two outputs", "aag 7 2 0 2 3, 2, 4, 6, 12, 6 13 15, 12 2 4, 14 3 5, i0 x, i1 y, o0 s, o1 c, c, half adder", 14, 1)
+refused("toggle: no input, two outputs", "aag 1 0 1 2 0, 2 3, 2, 3", 14, 1)
+refused("toggle with enable and reset: two outputs", "aag 7 2 1 2 4, 2, 4, 6 8, 6, 7, 8 4 10, 10 13 15, 12 2 6, 14 3 7", 14, 1)
+
+# ---- the same circuits brought into the subset: variables and operands in order, the first output only
+both = "00, 01, 10, 11"
+runs("and gate in order", "aag 3 2 0 1 1, 2, 4, 6, 6 4 2", both, "1110")
+runs("or gate in order", "aag 3 2 0 1 1, 2, 4, 7, 6 5 3", both, "1000")
+runs("half adder in order, its sum", "aag 5 2 0 1 3, 2, 4, 10, 6 4 2, 8 5 3, 10 9 7", both, "1001")
+runs("half adder in order, its carry", "aag 5 2 0 1 3, 2, 4, 6, 6 4 2, 8 5 3, 10 9 7", both, "1110")
+refused("half adder in order, with symbols", "aag 5 2 0 1 3, 2, 4, 10, 6 4 2, 8 5 3, 10 9 7, i0 x", 13, 8)
+runs("toggle in order, with an input", "aag 2 1 1 1 0, 2, 4 5, 4", "0, 0, 1, 1", "1010")
+# an input enables, the other resets by 0: the latch is 0, 1 enabled, 1 not enabled, 0 enabled, 1 enabled, 0 reset
+runs(
+    "toggle with enable and reset in order",
+    "aag 7 2 1 1 4, 2, 4, 6 14, 6, 8 6 2, 10 7 3, 12 11 9, 14 12 4",
+    "11, 01, 11, 11, 10, 01",
+    "100101",
+)
+
+# ---- what "AIGER 1.9 and Beyond" adds: resets are within the subset, further numbers in the header are not
+refused("a bad state in the header", "aag 5 1 1 0 3 1, 2, 4 10 0, 4, 6 5 3, 8 4 2, 10 9 7", 13, 1)
+# the latch is 0, 1, 1, 0, 0: it changes where the input is 1
+runs(
+    "the bad state as output",
+    "aag 5 1 1 1 3, 2, 4 10 0, 4, 6 5 3, 8 4 2, 10 9 7",
+    "1, 0, 1, 0, 1",
+    "10011",
+    again="aag 5 1 1 1 3, 2, 4 10, 4, 6 5 3, 8 4 2, 10 9 7",
+)
+runs("a latch that starts as 0", "aag 2 1 1 1 0, 2, 4 2 0, 4", "0, 1, 0", "110", again="aag 2 1 1 1 0, 2, 4 2, 4")
+runs("a latch that starts as 1", "aag 2 1 1 1 0, 2, 4 2 1, 4", "0, 1, 0", "010")
+runs("an uninitialised latch that holds", "aag 2 1 1 1 0, 2, 4 4 4, 4", "0, 1", "11")
+runs("an uninitialised latch that is loaded", "aag 2 1 1 1 0, 2, 4 2 4, 4", "1, 0, 1", "101")
+runs("not both an uninitialised latch and its inverse", "aag 3 1 1 1 1, 2, 4 4 4, 7, 6 5 4", "0, 1", "00")
+
+# ---- document 01's file of graph G
+runs(
+    "graph G",
+    "aag 12 3 2 1 7, 2, 4, 6, 8 18, 10 25, 24, 12 8 3, 14 10 3, 16 4 2, 18 16 6, 20 16 7, 22 4 0, 24 23 21",
+    "110, 111, 010",
+    "100",
+)
+
+with open(os.path.join(here, "stdin"), "wb") as f:
+    for name, text, again, trace, answer in examples:
+        for field in (name.encode(), text, again, trace, answer.encode()):
+            f.write(f"{len(field)}\n".encode() + field)
+with open(os.path.join(here, "stdout"), "w") as f:
+    for name, _, _, _, answer in examples:
+        f.write(f"{name}\t{answer}\tok\n")

@@ -1,0 +1,214 @@
+#!/usr/bin/env python3
+"""Writes stdin and stdout of the program page_cases beside this file: inputs of the two programs, each with the page
+that document 01 asks for. The pages are written here by hand, case by case; nothing is computed by the programs.
+
+A case in stdin is a line `LENGTH<tab>LABEL` and then that many bytes; a label starts with `m` for the monitor's page
+and `a` for AIGER's. In stdout it is the label's line and then the page."""
+import os
+
+here = os.path.dirname(os.path.abspath(__file__))
+cases = []
+
+
+def lines(*records):
+    """Records with blanks for tabs, one a line."""
+    return b"".join(r.replace(" ", "\t").encode("latin-1") + b"\n" for r in records)
+
+
+def page(label, text, *records):
+    cases.append((label, text, lines(*records)))
+
+
+def monitor(label, text, *records):
+    page("m " + label, text, *records)
+
+
+def refused(label, text, number, line):
+    """Both programs refuse a graph alike."""
+    page("m " + label, text, f"refused {number} {line}")
+    page("a " + label, text, f"refused {number} {line}")
+
+
+def wrong(label, trace, line, graph=None):
+    """A trace, after `T`, that is refused in this line."""
+    monitor(label, lines(*(graph or G), "T") + trace, f"refused 15 {line}")
+
+
+def aiger(label, text, file):
+    """Lines of the file parted by commas."""
+    cases.append(("a " + label, text, b"".join(l.strip().encode() + b"\n" for l in file.split(","))))
+
+
+G = ["S p", "S q", "V a", "V b", "E a b t p q"]
+G2 = G + ["E b b t p 1"]
+K = ["S p", "K k", "V a", "V b", "E a b t k p"]
+ONE = ["V a", "E a a t 1 0"]
+# a false consequent shows only a cycle later, on the terminal edge
+LATE = ["S p", "S q", "V a", "V b", "V c", "E a b - p q", "E b c t 1 1"]
+
+# ---- document 01's examples
+monitor("graph G", lines(*G, "T", "110", "111", "010"), "R 1", "sum 3 1 accepted")
+monitor("17 gates", lines(*G2, "T", "110", "011", "001"), "R 1", "R 2", "sum 3 2 accepted")
+monitor("constant, rejected", lines(*K, "T", "10"), "R 1", "sum 1 1 rejected")
+monitor("constant, accepted", lines(*K, "T", "11"), "sum 1 0 accepted")
+monitor("graph G without init", lines(*G, "T", "010"), "sum 1 0 accepted")
+monitor("and binds tighter than or", lines("S p", "S q", "S r", "V a", "E a a t p|q&r 0", "T", "1100"), "R 1", "sum 1 1 rejected")
+monitor("equals group to the left", lines("S p", "S q", "S r", "V a", "E a a t p=q=r 0", "T", "1000"), "sum 1 0 accepted")
+refused("two bits are no formula", lines("V a", "E a a t 10 1"), 7, 2)
+
+# ---- verdicts
+monitor("rejected at the end", lines(*G, "T", "000", "110"), "R 2", "sum 2 1 rejected")
+monitor("several rejected", lines(*G, "T", "110", "110", "111", "110", "100", "110"), "R 1", "R 2", "R 4", "R 6", "sum 6 4 rejected")
+monitor("consequent false where the antecedent is", lines(*G, "T", "100"), "sum 1 0 accepted")
+monitor("every cycle after the first init", lines(*ONE, "T", "0", "1", "0", "0"), "R 2", "R 3", "R 4", "sum 4 3 rejected")
+monitor("false consequent shows on the terminal edge", lines(*LATE, "T", "110", "000"), "R 2", "sum 2 1 rejected")
+monitor("no path is left after the terminal edge", lines(*LATE, "T", "110", "000", "000"), "R 2", "sum 3 1 accepted")
+monitor("restart by init in mid-trace", lines(*LATE, "T", "110", "100"), "sum 2 0 accepted")
+monitor("restart and a new path", lines(*LATE, "T", "110", "110", "000"), "R 3", "sum 3 1 rejected")
+monitor("a later false antecedent ends a condemned path", lines(*G2, "T", "110", "001", "011"), "R 1", "sum 3 1 accepted")
+monitor("no terminal edge", lines("V a", "E a a - 1 0", "T", "1", "0"), "sum 2 0 accepted")
+monitor("no edge", lines("V a", "T", "1", "0"), "sum 2 0 accepted")
+monitor("no signal", lines(*ONE, "T", "1", "0"), "R 1", "R 2", "sum 2 2 rejected")
+monitor("ten cycles", lines(*ONE, "T", *"1000000000"), *[f"R {n}" for n in range(1, 11)], "sum 10 10 rejected")
+
+# ---- constants
+six = [f"K k{j}" for j in range(6)]
+all_six = "&".join(f"k{j}" for j in range(6))
+monitor("six constants, all ones", lines(*six, "V a", f"E a a t {all_six} 0", "T", "1"), "R 1", "sum 1 1 rejected")
+monitor("a setting with one and one zero", lines("K j", "K k", "V a", "E a a t k&!j 0", "T", "1"), "R 1", "sum 1 1 rejected")
+monitor("no setting changes between cycles", lines("K k", "V a", "V b", "E a b - k 1", "E b b t !k 0", "T", "1", "0"), "sum 2 0 accepted")
+monitor("one setting through two cycles", lines("K k", "V a", "V b", "E a b - k 1", "E b b t k 0", "T", "1", "0"), "R 2", "sum 2 1 rejected")
+monitor("two settings in one cycle count once", lines("K k", "V a", "E a a t k 0", "E a a t !k 0", "T", "1"), "R 1", "sum 1 1 rejected")
+
+# ---- the line `T`
+monitor("empty trace", lines(*G, "T"), "sum 0 0 accepted")
+monitor("no T", lines(*G), "sum 0 0 accepted")
+monitor("T after a vertex", lines("V a", "T"), "sum 0 0 accepted")
+monitor("empty input", b"", "refused 10 0")
+monitor("T first", lines("T"), "refused 10 0")
+monitor("T first, then a graph", lines("T", *G), "refused 10 0")
+monitor("T without LF at the end", lines(*G) + b"T", "refused 2 6")
+monitor("T alone, without LF", b"T", "refused 2 1")
+monitor("T twice", lines(*G, "T", "T"), "refused 15 1")
+monitor("T twice, after a cycle", lines(*G, "T", "110", "T", "110"), "refused 15 2")
+monitor("T and CR", lines(*G) + b"T\r\n110\n", "refused 2 6")
+monitor("T and a tab", lines(*G) + b"T\t\n110\n", "refused 2 6")
+monitor("T and a blank", lines(*G) + b"T \n110\n", "refused 2 6")
+monitor("TT", lines(*G, "TT", "T", "110"), "refused 2 6")
+monitor("t", lines(*G, "t", "T", "110"), "refused 2 6")
+monitor("empty line before T", lines(*G, "", "T", "110"), "refused 2 6")
+monitor("a vertex T", lines("V T", "E T T t 1 0", "T", "1"), "R 1", "sum 1 1 rejected")
+monitor("a signal T", lines("S T", "V a", "E a a t T 0", "T", "11"), "R 1", "sum 1 1 rejected")
+refused("an edge that ends in T, unknown", lines("V a", "E a a t 1 T"), 9, 2)
+monitor("line without LF that ends in T", b"V\tT", "refused 2 1")
+page("a T is no record", lines(*G, "T", "110"), "refused 2 6")
+
+# ---- the trace
+wrong("last cycle without LF", b"110\n111", 2)
+wrong("one cycle without LF", b"110", 1)
+wrong("cycle too long", b"110\n1110\n", 2)
+wrong("cycle too short", b"110\n110\n11\n", 3)
+wrong("empty cycle", b"\n", 1)
+wrong("empty last cycle", b"110\n\n", 2)
+wrong("wrong byte", b"112\n", 1)
+wrong("letter O for zero", b"110\n1O0\n110\n", 2)
+wrong("CR before LF", b"110\r\n", 1)
+wrong("blank in a cycle", b"1 0\n", 1)
+wrong("NUL in a cycle", b"11\0\n", 1)
+wrong("the first faulty cycle", b"110\n11\n1111\n", 2)
+wrong("cycle of the signals alone", b"10\n", 1)
+wrong("no signal, two bytes", b"1\n10\n", 2, ONE)
+monitor("graph refused before the trace", lines("V a", "X", "T") + b"1", "refused 2 2")
+monitor("no vertex before a wrong cycle", lines("S p", "T") + b"1", "refused 10 0")
+
+# ---- each number of a graph
+refused("2: no record's kind", lines("S p", "X q", "V a"), 2, 2)
+refused("2: last line without LF", lines("V a") + b"V\tb", 2, 2)
+refused("3: signal after a vertex", lines("V a", "S p"), 3, 2)
+refused("4: 64 signals", lines(*[f"S s{i}" for i in range(64)]), 4, 64)
+refused("4: 129 edges", lines("V a", *["E a a t 1 1"] * 129), 4, 130)
+refused("5: name repeated", lines("S p", "K p", "V a"), 5, 2)
+refused("6: unknown vertex", lines("V a", "E a b t 1 1"), 6, 2)
+refused("7: operator without operand", lines("S p", "V a", "E a a t p& 1"), 7, 3)
+refused("8: depth 17", lines("V a", "E a a t 1 " + "!" * 17 + "1"), 8, 2)
+refused("9: unknown name", lines("V a", "E a a t p 1"), 9, 2)
+refused("10: no vertex", lines("S p", "K k"), 10, 0)
+page("a 10: empty input", b"", "refused 10 0")
+
+# ---- 11. Six edges on one vertex, all terminal: 1 input, 12 latches and 42 + 6 + 5 + 5 gates, and those of the
+# formulas: 1,341 times `^`, three each, and one `&` make M = 13 + 58 + 4,024 = 4,095. One `&` more is over.
+xors = [127] * 10 + [71]
+formulas = ["1" + "^0" * n for n in xors]
+assert 3 * sum(xors) + 1 == 4024 and max(map(len, formulas)) <= 255
+
+
+def full(last):
+    f = formulas + [last]
+    return lines("V a", *[f"E a a t {f[2 * k]} {f[2 * k + 1]}" for k in range(6)])
+
+
+# every antecedent is 1, and the consequents are 1 but the last, which is 0
+monitor("M is 4,095", full("0&0") + lines("T", "1", "0"), "R 1", "R 2", "sum 2 2 rejected")
+monitor("M is 4,095, and no false consequent", full("1&1") + lines("T", "1", "0"), "sum 2 0 accepted")
+refused("11: M is 4,096", full("0&0&0"), 11, 0)
+monitor("11 before a wrong cycle", full("0&0&0") + b"T\n2\n", "refused 11 0")
+monitor("M is 4,095, a wrong cycle", full("0&0") + b"T\n2\n", "refused 15 1")
+
+# ---- 1. 62 full edges and one that fills up the graph to 32,768 bytes, with few gates: each operand is a name of 15
+# bytes after up to 16 `!`.
+NAME = "s" * 15
+FULL = "&".join(["!" * 16 + NAME] * 8)
+assert len(FULL) == 255
+
+
+def long_graph(nots):
+    last = "&".join(["!" * 16 + NAME] * 7 + ["!" * nots + NAME])
+    return lines("S " + NAME, "V a", *[f"E a a t {FULL} {FULL}"] * 62, f"E a a t {FULL} {last}")
+
+
+assert len(long_graph(2)) == 32768
+monitor("graph of 32,768 bytes", long_graph(2) + lines("T", "11", "00"), "sum 2 0 accepted")
+monitor("1: graph of 32,769 bytes", long_graph(3) + lines("T", "11", "00"), "refused 1 0")
+page("a 1: graph of 32,769 bytes", long_graph(3), "refused 1 0")
+
+# ---- AIGER files
+aiger("graph G", lines(*G), "aag 12 3 2 1 7, 2, 4, 6, 8 18, 10 25, 24, 12 8 3, 14 10 3, 16 4 2, 18 16 6, 20 16 7, 22 4 0, 24 23 21")
+aiger(
+    "17 gates",
+    lines(*G2),
+    "aag 24 3 4 1 17, 2, 4, 6, 8 30, 10 37, 12 40, 14 47, 48,"
+    # the latches masked by init
+    "16 8 3, 18 10 3, 20 12 3, 22 14 3,"
+    # vertex b; a has init alone and 0
+    "24 21 17, 26 23 19,"
+    # the edges
+    "28 4 2, 30 28 6, 32 28 7, 34 4 0, 36 35 33,"
+    "38 25 4, 40 38 1, 42 38 0, 44 27 4, 46 45 43,"
+    # accept
+    "48 46 36",
+)
+aiger("a constant's latch", lines(*K), "aag 12 2 3 1 7, 2, 4, 6 6 6, 8 18, 10 25, 24, 12 8 3, 14 10 3, 16 6 2, 18 16 4, 20 16 5, 22 6 0, 24 23 21")
+aiger(
+    "exclusive or, and equals",
+    lines("S p", "S q", "V a", "E a a t p^q p=q"),
+    "aag 19 3 2 1 14, 2, 4, 6, 8 32, 10 39, 38, 12 8 3, 14 10 3, 16 13 3,"
+    "18 6 4, 20 7 5, 22 21 19, 24 6 4, 26 7 5, 28 27 25,"
+    "30 22 17, 32 30 29, 34 30 28, 36 22 14, 38 37 35",
+)
+aiger(
+    "not, and, or with bits",
+    lines("S p", "V a", "E a a t !p&0|1 1"),
+    "aag 14 2 2 1 10, 2, 4, 6 22, 8 29, 28, 10 6 3, 12 8 3, 14 11 3, 16 5 0, 18 17 0, 20 19 15, 22 20 1, 24 20 0, 26 19 12, 28 27 25",
+)
+aiger("no terminal edge", lines("S p", "S q", "V a", "V b", "E a b - p q"), "aag 12 3 2 1 7, 2, 4, 6, 8 18, 10 25, 1, 12 8 3, 14 10 3, 16 4 2, 18 16 6, 20 16 7, 22 4 0, 24 23 21")
+aiger("one vertex", lines("V a"), "aag 1 1 0 1 0, 2, 1")
+aiger("two vertices, a signal, a constant", lines("S p", "K k", "V a", "V b"), "aag 3 2 1 1 0, 2, 4, 6 6 6, 1")
+
+with open(os.path.join(here, "stdin"), "wb") as f:
+    for label, text, _ in cases:
+        f.write(f"{len(text)}\t{label}\n".encode() + text)
+with open(os.path.join(here, "stdout"), "wb") as f:
+    for label, _, expected in cases:
+        f.write(f"{label}\n".encode() + expected)
+    f.write(b"m 65,536 bytes of input, every cycle rejected\n250991 bytes\n" + lines("sum 32759 32759 rejected"))
+    f.write(b"m 65,537 bytes of input\n12 bytes\n" + lines("refused 1 0"))

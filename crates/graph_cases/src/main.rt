@@ -49,7 +49,7 @@ fn put_answer(out: &mut [u8], at: usize, r: GraphRead) -> usize {
 // Writes the first bytes of a buffer.
 fn write_front(out: &[u8], end: usize) {
     if end <= out.len() {
-        io::write_all(STDOUT, &out[..end]);
+        io::write_all(STDOUT, &out[0..end]);
     }
 }
 

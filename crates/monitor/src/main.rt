@@ -17,7 +17,7 @@ fn write_page(out: &[u8], paged: Paged) {
     match paged {
         Paged::Bytes(end) => {
             if end <= out.len() {
-                io::write_all(STDOUT, &out[..end]);
+                io::write_all(STDOUT, &out[0..end]);
             }
         }
         Paged::Refused(_) => {}

@@ -19,7 +19,7 @@ use Rattle.simulator.specs.declared.outcome.Ran.{Ran}
 use Rattle.simulator.specs.Tallies.{cleared}
 use Rattle.simulator.specs.Start.{StartEnd, startEnd, startOf}
 use Rattle.simulator.specs.Run.{RunEnd, runEnd, runOf}
-use Rattle.page.specs.Lines.{refusedLine}
+use Rattle.page_text.specs.Lines.{refusedLine}
 use Rattle.page.specs.Pages.{graphPage, tracePage, aigerText}
 use Rattle.page.specs.Machine.{outcomePage, machineEnd, machinePage}
 use Rattle.page.proofs.LengthLaws.{aiger-fits}

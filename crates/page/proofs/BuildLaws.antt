@@ -24,7 +24,7 @@ use Rattle.builder.specs.declared.Built.the-variants.{Gates, Refused}
 use Rattle.builder.specs.Build.{refusalOf, variablesOf, BuildEnd, buildEnd, buildAs, buildOf}
 use Rattle.builder.specs.Claims.{BuildMeans}
 use Rattle.demand.specs.Demand.{Demand3}
-use Rattle.page.specs.Lines.{refusedLine}
+use Rattle.page_text.specs.Lines.{refusedLine}
 use Rattle.page.specs.Pages.{graphPage}
 
 numbers-length : (g : Graph) → length (numbersOf g) ≡ 6 + 2 * (length (g .constants) + 2 * length (g .edges)) + 2 * length (gatesOf g)

@@ -21,8 +21,8 @@ use Rattle.aiger.specs.Rows as rows
 use Rattle.aiger.specs.Format as format
 use Rattle.simulator.specs.Traces as traces
 use Rattle.simulator.specs.Run as run
-use Rattle.page.specs.Parts as parts
-use Rattle.page.specs.Lines as lines
+use Rattle.page_text.specs.Parts as parts
+use Rattle.page_text.specs.Lines as lines
 use Rattle.page.specs.Pages as pages
 use Rattle.page.specs.Pages.{monitorText, aigerText}
 use Rattle.page.proofs.Letters.{bytes}

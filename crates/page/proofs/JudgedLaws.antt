@@ -39,7 +39,7 @@ use Rattle.simulator.proofs.StartLaws.{length-starts}
 use Rattle.simulator.proofs.RunMeaning.{outputsOf, bytesOf, length-outputs, run-verdicts, run-outcome}
 use Rattle.demand.specs.Calls.{runCall, called, runGives}
 use Rattle.demand.specs.Demand.{BytesRight, Counted, keptBy, Demand3}
-use Rattle.page.specs.Lines.{refusedLine, report}
+use Rattle.page_text.specs.Lines.{refusedLine, report}
 use Rattle.page.specs.Pages.{graphPage, inputsOf, judgement, tracePage}
 use Rattle.page.specs.Machine.{outcomePage, machineEnd, machinePage}
 use Rattle.page.proofs.BuildLaws.{Made, build-made}

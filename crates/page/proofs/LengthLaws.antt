@@ -36,8 +36,8 @@ use Rattle.simulator.proofs.TraceLaws.{lines-fit, length-cycles}
 use Rattle.demand.proofs.Held.{verdicts-length}
 use Rattle.aiger.specs.Format.{fileOf}
 use Rattle.aiger.proofs.LengthLaws.{joined-length, file-length}
-use Rattle.page.specs.Parts.{graphLength, graphPart, tracePart}
-use Rattle.page.specs.Lines.{field, refusedLine, rejectedLine, verdictField, sumLine, cycleLine, report}
+use Rattle.page_text.specs.Parts.{graphLength, graphPart, tracePart}
+use Rattle.page_text.specs.Lines.{field, refusedLine, rejectedLine, verdictField, sumLine, cycleLine, report}
 use Rattle.page.specs.Pages.{refusalOf, graphPage, inputsOf, judgement, tracePage, monitorText, aigerText}
 use Rattle.page.specs.declared.Cause.the-variants.{InputTooLong}
 use Rattle.page.proofs.BuildLaws.{numbers-most, made-netlist, made-file}

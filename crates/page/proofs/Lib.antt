@@ -1,5 +1,4 @@
 -- The laws that belong to no one function.
-mod PartLaws
 mod PageLaws
 mod BuildLaws
 mod JudgedLaws

@@ -23,8 +23,8 @@ use Rattle.aiger.specs.declared.Cause.the-variants as aiger
 use Rattle.page.specs.declared.Cause.the-variants.{InputTooLong, ShortBuffer}
 use Rattle.page.specs.declared.Paged.{Paged}
 use Rattle.page.specs.declared.Paged.the-variants.{Bytes, Refused}
-use Rattle.page.specs.Parts.{graphLength, graphPart, tracePart}
-use Rattle.page.specs.Lines.{refusedLine}
+use Rattle.page_text.specs.Parts.{graphLength, graphPart, tracePart}
+use Rattle.page_text.specs.Lines.{refusedLine}
 use Rattle.page.specs.Pages.{refusalOf, graphPage, tracePage, monitorText, PageEnd, pageEnd, pageOf}
 
 -- ---- a text that was measured over no bytes is its page, refused or written

@@ -1,6 +1,4 @@
 -- The root of the definitions that the contracts of page cite, in reading order. Machine only serves the private
 -- functions.
-pub mod Parts
-pub mod Lines
 pub mod Pages
 pub mod Machine

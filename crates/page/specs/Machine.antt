@@ -9,7 +9,7 @@ use Rattle.simulator.specs.Tallies.{cleared}
 use Rattle.simulator.specs.Refusals.{refusalOf}
 use Rattle.simulator.specs.Start.{StartEnd, startOf}
 use Rattle.simulator.specs.Run.{RunEnd, runOf}
-use Rattle.page.specs.Lines.{refusedLine, report}
+use Rattle.page_text.specs.Lines.{refusedLine, report}
 
 -- the page of an outcome, with the tally and the verdict buffer that came with it
 unfoldable pub outcomePage : RunOutcome → Tally → List ℕ → List ℕ

@@ -18,8 +18,8 @@ use Rattle.simulator.specs.Traces.{faultOf, cyclesOf}
 use Rattle.simulator.specs.Run.{verdictOf}
 use Rattle.simulator.specs.Refusals as simulator
 use Rattle.simulator.specs.declared.refusal.Cause.the-variants.{WrongLine}
-use Rattle.page.specs.Parts.{graphPart, tracePart}
-use Rattle.page.specs.Lines.{refusedLine, report}
+use Rattle.page_text.specs.Parts.{graphPart, tracePart}
+use Rattle.page_text.specs.Lines.{refusedLine, report}
 use Rattle.page.specs.declared.Cause.{Cause}
 use Rattle.page.specs.declared.Cause.the-variants.{InputTooLong, ShortBuffer}
 use Rattle.page.specs.declared.Paged.{Paged}

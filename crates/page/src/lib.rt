@@ -4,9 +4,9 @@
 // the cycles that some setting and some rejecting path condemn.
 use aiger::Written;
 use builder::Built;
-use lines::put_refusal;
-use lines::put_report;
-use parts::graph_length;
+use page_text::graph_length;
+use page_text::put_refusal;
+use page_text::put_report;
 use simulator::Ran;
 use simulator::RunOutcome;
 use simulator::Tally;
@@ -17,14 +17,11 @@ ghost use Prim.Native.Nat.{_≤_};
 ghost use lib.ListN.{length};
 ghost use Rattle.aiger.specs.Format.{fileOf};
 ghost use Rattle.netlist.specs.Valid.{isNetlist};
-ghost use Rattle.page.specs.Lines.{refusedLine, report};
+ghost use Rattle.page_text.specs.Lines.{refusedLine, report};
 ghost use Rattle.page.specs.Pages.{refusalOf, graphPage, tracePage, pageEnd, pageOf, monitorText, aigerText};
 ghost use Rattle.graph.specs.Reading.{graphOf};
 ghost use mathlib.Core.Bool.{true};
 ghost use Rattle.page.specs.Machine.{outcomePage, machinePage};
-
-mod lines;
-mod parts;
 
 // The longest input of a program.
 const MAX_INPUT: usize = 65536;

@@ -4,7 +4,7 @@ use native.Mathlib.Omega.{arith}
 use borrow.Author.Needs.{needs}
 use denote.Ref.{now}
 use lib.Seq.{length-take-le}
-use Rattle.page.proofs.PartLaws.{graph-within, trace-at}
+use Rattle.page_text.proofs.PartLaws.{graph-within, trace-at}
 use Rattle.page.proofs.PageLaws.{long-text, parted-text}
 use Rattle.page.proofs.LengthLaws.{monitor-fits}
 use Rattle.page.proofs.monitor_page.Statement.{statement}

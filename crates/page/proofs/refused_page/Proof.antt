@@ -2,7 +2,7 @@
 use native.Mathlib.Omega.{arith}
 use borrow.Author.Needs.{needs}
 use denote.Ref.{now}
-use Rattle.page.specs.Lines.{refusedLine}
+use Rattle.page_text.specs.Lines.{refusedLine}
 use Rattle.page.proofs.PageLaws.{short-page, whole-page}
 use Rattle.page.proofs.refused_page.Statement.{statement}
 use Rattle.page.proofs.refused_page.Tie as tie

@@ -1,9 +1,9 @@
 -- `put_report` meets its contract. Assumes nothing.
 use borrow.Author.Needs.{needs}
 use Rattle.text.proofs.WriterLaws.{then}
-use Rattle.page.specs.Lines.{report}
-use Rattle.page.proofs.lines.put_report.Statement.{statement}
-use Rattle.page.proofs.lines.put_report.Tie as tie
+use Rattle.page_text.specs.Lines.{report}
+use Rattle.page_text.proofs.lines.put_report.Statement.{statement}
+use Rattle.page_text.proofs.lines.put_report.Tie as tie
 
 put-cycles-requires : tie.Need-put-cycles-requires
 put-cycles-requires c κs = search needs

@@ -11,7 +11,7 @@ use borrow.Author.Tests.{eqb-true, eq-eqb}
 use lib.Dec.{eqb}
 use lib.ListN.{length, getD, drop, drop-of-length-le}
 use lib.Seq.{drop-cons, getD-drop}
-use Rattle.page.specs.Parts.{bytesBefore, graphLength, tracePart}
+use Rattle.page_text.specs.Parts.{bytesBefore, graphLength, tracePart}
 
 -- ---- one byte more, where a loop stands at place i
 

@@ -1,9 +1,9 @@
 // The parts of the monitor program's input.
 ghost use mathlib.Core.Path.{_≡_};
-ghost use Rattle.page.specs.Parts.{graphLength};
+ghost use Rattle.page_text.specs.Parts.{graphLength};
 
 // How many bytes stand before the first line `T`, or all where there is none.
-pub(crate) fn graph_length(input: &[u8]) -> usize
+pub fn graph_length(input: &[u8]) -> usize
     ensures { λ r. ⌜ r ≡ graphLength (now (input .entry)) ⌝ }
 {
     let mut starts = true;

@@ -1,8 +1,8 @@
 -- `put_verdict` meets its contract. Assumes nothing.
 use borrow.Author.Needs.{needs}
-use Rattle.page.specs.Lines.{verdictField}
-use Rattle.page.proofs.lines.put_verdict.Statement.{statement}
-use Rattle.page.proofs.lines.put_verdict.Tie as tie
+use Rattle.page_text.specs.Lines.{verdictField}
+use Rattle.page_text.proofs.lines.put_verdict.Statement.{statement}
+use Rattle.page_text.proofs.lines.put_verdict.Tie as tie
 
 enum-told : tie.Need-enum-told
 enum-told c = search needs

@@ -6,10 +6,10 @@ use Prim.Native.Nat.{ℕ, _+_, _-_}
 use native.Mathlib.Omega.{arith}
 use borrow.Author.Needs.{needs}
 use lib.ListN.{length, getD, drop}
-use Rattle.page.specs.Parts.{bytesBefore, graphLength}
-use Rattle.page.proofs.PartLaws.{mark-here, mark-later, mark-nowhere}
-use Rattle.page.proofs.parts.graph_length.Statement.{statement}
-use Rattle.page.proofs.parts.graph_length.Tie as tie
+use Rattle.page_text.specs.Parts.{bytesBefore, graphLength}
+use Rattle.page_text.proofs.PartLaws.{mark-here, mark-later, mark-nowhere}
+use Rattle.page_text.proofs.parts.graph_length.Statement.{statement}
+use Rattle.page_text.proofs.parts.graph_length.Tie as tie
 
 abbrev Inv-loop : tie.InvT-loop
 Inv-loop input starts₀ i₀ starts i = i + bytesBefore starts (drop i input) ≡ graphLength input

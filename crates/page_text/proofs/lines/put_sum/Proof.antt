@@ -1,9 +1,9 @@
 -- `put_sum` meets its contract. Assumes nothing.
 use borrow.Author.Needs.{needs}
 use Rattle.text.proofs.WriterLaws.{then}
-use Rattle.page.specs.Lines.{sumLine}
-use Rattle.page.proofs.lines.put_sum.Statement.{statement}
-use Rattle.page.proofs.lines.put_sum.Tie as tie
+use Rattle.page_text.specs.Lines.{sumLine}
+use Rattle.page_text.proofs.lines.put_sum.Statement.{statement}
+use Rattle.page_text.proofs.lines.put_sum.Tie as tie
 
 slice-aggregate-put-bytes : tie.Need-slice-aggregate-put-bytes
 slice-aggregate-put-bytes c = search needs

@@ -1,9 +1,9 @@
 -- `put_rejected` meets its contract. Assumes nothing.
 use borrow.Author.Needs.{needs}
 use Rattle.text.proofs.WriterLaws.{then}
-use Rattle.page.specs.Lines.{rejectedLine}
-use Rattle.page.proofs.lines.put_rejected.Statement.{statement}
-use Rattle.page.proofs.lines.put_rejected.Tie as tie
+use Rattle.page_text.specs.Lines.{rejectedLine}
+use Rattle.page_text.proofs.lines.put_rejected.Statement.{statement}
+use Rattle.page_text.proofs.lines.put_rejected.Tie as tie
 
 put-byte-requires : tie.Need-put-byte-requires
 put-byte-requires c κs = search needs

@@ -1,9 +1,9 @@
 -- `put_refusal` meets its contract. Assumes nothing.
 use borrow.Author.Needs.{needs}
 use Rattle.text.proofs.WriterLaws.{then}
-use Rattle.page.specs.Lines.{refusedLine}
-use Rattle.page.proofs.lines.put_refusal.Statement.{statement}
-use Rattle.page.proofs.lines.put_refusal.Tie as tie
+use Rattle.page_text.specs.Lines.{refusedLine}
+use Rattle.page_text.proofs.lines.put_refusal.Statement.{statement}
+use Rattle.page_text.proofs.lines.put_refusal.Tie as tie
 
 slice-aggregate-put-bytes : tie.Need-slice-aggregate-put-bytes
 slice-aggregate-put-bytes c = search needs

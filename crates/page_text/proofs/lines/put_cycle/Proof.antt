@@ -4,9 +4,9 @@ use borrow.Author.Tests.{eq-eqb, ne-eqb}
 use borrow.Author.Needs.{needs}
 use lib.ListN.{getD}
 use Rattle.text.proofs.WriterLaws.{none}
-use Rattle.page.specs.Lines.{cycleLine}
-use Rattle.page.proofs.lines.put_cycle.Statement.{statement}
-use Rattle.page.proofs.lines.put_cycle.Tie as tie
+use Rattle.page_text.specs.Lines.{cycleLine}
+use Rattle.page_text.proofs.lines.put_cycle.Statement.{statement}
+use Rattle.page_text.proofs.lines.put_cycle.Tie as tie
 
 shared-slice-read-if1 : tie.Need-shared-slice-read-if1
 shared-slice-read-if1 c = search needs

@@ -5,7 +5,7 @@ use text::Refusal;
 ghost use Prim.Native.Nat.{_<_, _+_};
 ghost use lib.ListN.{length};
 ghost use Rattle.text.specs.Writer.{Wrote, joined};
-ghost use Rattle.page.specs.Lines.{field, refusedLine, rejectedLine, verdictField, sumLine, cycleLine, report};
+ghost use Rattle.page_text.specs.Lines.{field, refusedLine, rejectedLine, verdictField, sumLine, cycleLine, report};
 
 // Appends a tab and a number.
 fn put_field(out: &mut [u8], at: usize, n: usize) -> usize
@@ -16,7 +16,7 @@ fn put_field(out: &mut [u8], at: usize, n: usize) -> usize
 }
 
 // Appends the line of a refusal.
-pub(crate) fn put_refusal(out: &mut [u8], at: usize, refusal: Refusal) -> usize
+pub fn put_refusal(out: &mut [u8], at: usize, refusal: Refusal) -> usize
     ensures { λ r. ⌜ Wrote (now (out .entry)) (now (out .exit)) at r (refusedLine refusal) ⌝ }
 {
     let p1 = text::put_bytes(out, at, b"refused");
@@ -80,13 +80,7 @@ fn put_sum(out: &mut [u8], at: usize, tally: Tally, verdict: Verdict) -> usize
 }
 
 // Appends the page of a run with these verdict bytes.
-pub(crate) fn put_report(
-    out: &mut [u8],
-    at: usize,
-    bytes: &[u8],
-    tally: Tally,
-    verdict: Verdict,
-) -> usize
+pub fn put_report(out: &mut [u8], at: usize, bytes: &[u8], tally: Tally, verdict: Verdict) -> usize
     ensures { λ r. ⌜ Wrote (now (out .entry)) (now (out .exit)) at r (report (now (bytes .entry)) (tally .cycles) (tally .rejected) verdict) ⌝ }
 {
     let p = put_cycles(out, at, bytes);

@@ -5,9 +5,9 @@ use borrow.Author.Needs.{needs}
 use lib.ListN.{length}
 use Rattle.text.specs.Writer.{Wrote, joined}
 use Rattle.text.proofs.WriterLaws.{more, kept}
-use Rattle.page.specs.Lines.{cycleLine}
-use Rattle.page.proofs.lines.put_cycles.Statement.{statement}
-use Rattle.page.proofs.lines.put_cycles.Tie as tie
+use Rattle.page_text.specs.Lines.{cycleLine}
+use Rattle.page_text.proofs.lines.put_cycles.Statement.{statement}
+use Rattle.page_text.proofs.lines.put_cycles.Tie as tie
 
 abbrev Inv-loop : tie.InvT-loop
 Inv-loop out₀ at bytes p₀ k₀ out p k = (k ≤ length bytes) × Wrote out₀ out at p (joined (cycleLine bytes) k)

@@ -1,0 +1,2 @@
+-- The laws that belong to no one function, for the crate above.
+pub mod PartLaws

@@ -13,14 +13,14 @@ use simulator::Tally;
 use simulator::Verdict;
 use text::Refusal;
 ghost use mathlib.Core.Path.{_≡_};
+ghost use mathlib.Core.Bool.{true};
 ghost use Prim.Native.Nat.{_≤_};
 ghost use lib.ListN.{length};
-ghost use Rattle.aiger.specs.Format.{fileOf};
 ghost use Rattle.netlist.specs.Valid.{isNetlist};
+ghost use Rattle.graph.specs.Reading.{graphOf};
+ghost use Rattle.aiger.specs.Format.{fileOf};
 ghost use Rattle.page_text.specs.Lines.{refusedLine, report};
 ghost use Rattle.page.specs.Pages.{refusalOf, graphPage, tracePage, pageEnd, pageOf, monitorText, aigerText};
-ghost use Rattle.graph.specs.Reading.{graphOf};
-ghost use mathlib.Core.Bool.{true};
 ghost use Rattle.page.specs.Machine.{outcomePage, machinePage};
 
 // The longest input of a program.

@@ -10,7 +10,7 @@ use Rattle.text.specs.Writer.{joined}
 use Rattle.simulator.specs.declared.outcome.Verdict.{Verdict}
 use Rattle.simulator.specs.declared.outcome.Verdict.the-variants.{Accepted, Rejected}
 
--- a field, and a number after a tab
+-- a tab and a number
 unfoldable pub field : ℕ → List ℕ
 field n = 9 ∷ digits n
 

@@ -4,6 +4,7 @@ use mathlib.Core.Bool.{Bool, true, false, not, cond, _&&_}
 use mathlib.Core.List.{List, [], _∷_, _++_}
 use Prim.Native.Nat.{ℕ}
 use lib.Dec.{eqb}
+use Rattle.text.specs.Quoted.{bytes}
 use Rattle.text.specs.Numbers.{digits}
 
 -- numbers in decimal, parted by single blanks, and an LF; a line has one number at least
@@ -13,7 +14,7 @@ line n (m ∷ ms) = digits n ++ (32 ∷ line m ms)
 
 -- `aag M I L O A`
 unfoldable pub headerRow : ℕ → ℕ → ℕ → ℕ → ℕ → List ℕ
-headerRow m i l o a = 97 ∷ 97 ∷ 103 ∷ 32 ∷ line m (i ∷ l ∷ o ∷ a ∷ [])
+headerRow m i l o a = bytes "aag " ++ line m (i ∷ l ∷ o ∷ a ∷ [])
 
 -- an input, or an output: its literal
 unfoldable pub literalRow : ℕ → List ℕ

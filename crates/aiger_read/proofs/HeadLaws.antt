@@ -13,7 +13,7 @@ use Rattle.aiger_read.specs.declared.Line.{Line}
 use Rattle.aiger_read.specs.declared.HeadRead.the-variants.{Good, Bad}
 use Rattle.aiger_read.specs.Fields.{Fields, wrong, fields, fieldsOf}
 use Rattle.aiger_read.specs.Files.{failed, behind, bodyOf, hasTag, headed, fileRead}
-use Rattle.aiger_read.specs.Steps.{LineIs, inputsOf, HeadIs}
+use Rattle.aiger_read.specs.Private.Steps.{LineIs, inputsOf, HeadIs}
 use Rattle.aiger_read.proofs.LineLaws.{fields-length}
 
 -- five numbers

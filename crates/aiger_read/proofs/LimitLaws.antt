@@ -10,7 +10,7 @@ use Rattle.netlist.specs.Valid.{headerOk}
 use Rattle.netlist.proofs.ValidLaws.{Header, header}
 use Rattle.aiger_read.specs.declared.Fault.the-variants.{OutOfLimits}
 use Rattle.aiger_read.specs.Lines.{row, fault}
-use Rattle.aiger_read.specs.Steps.{resetRow}
+use Rattle.aiger_read.specs.Private.Steps.{resetRow}
 
 module _ (m i l o a : ℕ) where
   pub no-header : (Header m i l o a → ⊥) → headerOk m i l o a ≡ false

@@ -15,7 +15,7 @@ use Rattle.aiger_read.specs.declared.Fault.the-variants.{WrongShape}
 use Rattle.aiger_read.specs.declared.Line.{Line}
 use Rattle.aiger_read.specs.Fields.{Fields, wrong, fields, onNumber, numberThen, before, fieldsOf, latchFields}
 use Rattle.aiger_read.specs.Lines.{Row, fault, judged}
-use Rattle.aiger_read.specs.Steps.{LineIs}
+use Rattle.aiger_read.specs.Private.Steps.{LineIs}
 
 -- a byte that is not 0 stands within the text
 pub byte-inside : (s : List ℕ) (p : ℕ) → 1 ≤ getD s p 0 → p < length s

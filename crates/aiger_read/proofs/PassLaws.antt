@@ -26,7 +26,7 @@ use Rattle.aiger_read.specs.declared.Passed.{Passed}
 use Rattle.aiger_read.specs.declared.Passed.the-variants.{Past, Failed}
 use Rattle.aiger_read.specs.Lines.{Row, row, fault}
 use Rattle.aiger_read.specs.Files.{Rows, rows, failed, behind, andThen, onRow, rowsOf, endOf, fileRead}
-use Rattle.aiger_read.specs.Steps.{numbersIn, rowIn, kindAt, Counted, inputsOf, HeadIs, Took, Within, blockOf, gatesOf, outputsOf, latchesOf}
+use Rattle.aiger_read.specs.Private.Steps.{numbersIn, rowIn, kindAt, Counted, inputsOf, HeadIs, Took, Within, blockOf, gatesOf, outputsOf, latchesOf}
 
 -- numbers were stored, and then those of x
 pub took-behind : (x : Rows) (ns net after : List ℕ) (place : ℕ) (r : Passed) → Took x (sets net place ns) after (place + length ns) r → Took (behind ns x) net after place r

@@ -16,7 +16,7 @@ use Rattle.aiger_read.specs.declared.Passed.{Passed}
 use Rattle.aiger_read.specs.declared.Passed.the-variants.{Past, Failed}
 use Rattle.aiger_read.specs.Files.{Rows, rows, failed, fileRead}
 use Rattle.aiger_read.specs.Read.{readEnd, readAs, readOf}
-use Rattle.aiger_read.specs.Steps.{Took}
+use Rattle.aiger_read.specs.Private.Steps.{Took}
 use Rattle.aiger_read.proofs.PassLaws.{past-failed}
 
 none-left : (d : List ℕ) → length d ≡ 0 → d ≡ []

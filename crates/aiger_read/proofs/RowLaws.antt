@@ -9,7 +9,7 @@ use Rattle.aiger_read.specs.declared.Fault.the-variants.{WrongShape, Out
 use Rattle.aiger_read.specs.declared.Line.{Line}
 use Rattle.aiger_read.specs.Fields.{fieldsOf, latchFields}
 use Rattle.aiger_read.specs.Lines.{Row, row, fault, inputAt, latchFits, latchAt, outputAt, gateFits, gateAt}
-use Rattle.aiger_read.specs.Steps.{LineIs, resetRow}
+use Rattle.aiger_read.specs.Private.Steps.{LineIs, resetRow}
 use Rattle.aiger_read.proofs.LineLaws.{judged-wrong, judged-as}
 
 module _ (s : List ℕ) (free p : ℕ) (l : Line) where

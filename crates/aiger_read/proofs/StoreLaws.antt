@@ -5,7 +5,7 @@ use Prim.Native.Nat.{ℕ, zero, suc, _+_, _≤_}
 use native.Mathlib.Omega.{arith}
 use lib.ListN.{length, set}
 use lib.Seq.{sets}
-use Rattle.aiger_read.specs.Steps.{numbersOf}
+use Rattle.aiger_read.specs.Private.Steps.{numbersOf}
 
 abbrev pub Stored : ℕ → ℕ → ℕ → List ℕ → List ℕ → ℕ → ℕ → Type 0
 Stored n a b net after at r = (after ≡ sets net at (numbersOf n a b)) × (r ≡ at + length (numbersOf n a b)) × (r ≤ at + 2)

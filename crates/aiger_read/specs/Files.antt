@@ -5,6 +5,7 @@ use mathlib.Core.List.{List, [], _∷_, _++_}
 use Prim.Native.Nat.{ℕ, zero, suc, _+_}
 use lib.Dec.{eqb}
 use lib.ListN.{length, getD}
+use Rattle.text.specs.Quoted.{byte}
 use Rattle.netlist.specs.Literals.{literalOf}
 use Rattle.netlist.specs.Valid.{headerOk}
 use Rattle.aiger_read.specs.declared.Fault.{Fault}
@@ -58,7 +59,8 @@ bodyOf s m i l o a p =
 
 -- `aag `
 unfoldable pub hasTag : List ℕ → Bool
-hasTag s = eqb (getD s 0 0) 97 && (eqb (getD s 1 0) 97 && (eqb (getD s 2 0) 103 && eqb (getD s 3 0) 32))
+hasTag s =
+    eqb (getD s 0 0) (byte "a") && (eqb (getD s 1 0) (byte "a") && (eqb (getD s 2 0) (byte "g") && eqb (getD s 3 0) (byte " ")))
 
 -- the header's numbers M I L O A keep to the limits
 unfoldable pub headed : List ℕ → Fields → Rows

@@ -2,6 +2,6 @@
 pub mod Fields
 pub mod Lines
 pub mod Files
-pub mod Steps
 pub mod Read
 pub mod Claims
+pub mod Private

@@ -8,7 +8,7 @@ ghost use mathlib.Core.Bool.{false};
 ghost use Prim.Native.Nat.{_≤_};
 ghost use Rattle.aiger_read.specs.Fields.{numberThen, fieldsOf, latchFields};
 ghost use Rattle.aiger_read.specs.Files.{hasTag};
-ghost use Rattle.aiger_read.specs.Steps.{LineIs};
+ghost use Rattle.aiger_read.specs.Private.Steps.{LineIs};
 
 // A number and the byte after it. The byte is not 0, which stands for the end of the text.
 fn number_then(s: &[u8], at: usize, after: u8) -> Number

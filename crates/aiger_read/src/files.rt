@@ -18,7 +18,7 @@ ghost use Prim.Native.Nat.{_+_, _*_, _<_, _≤_};
 ghost use lib.ListN.{length, set};
 ghost use lib.Seq.{sets};
 ghost use Rattle.aiger_read.specs.Files.{fileRead};
-ghost use Rattle.aiger_read.specs.Steps.{numbersIn, blockOf, inputsOf, latchesOf, outputsOf, gatesOf, Took, Within, Counted};
+ghost use Rattle.aiger_read.specs.Private.Steps.{numbersIn, blockOf, inputsOf, latchesOf, outputsOf, gatesOf, Took, Within, Counted};
 
 // How many numbers the header gives.
 const HEADER: usize = 5;

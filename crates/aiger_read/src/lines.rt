@@ -11,7 +11,7 @@ use crate::fields::latch_fields;
 ghost use mathlib.Core.Path.{_≡_};
 ghost use Rattle.netlist.specs.Valid.{headerOk};
 ghost use Rattle.aiger_read.specs.Lines.{inputAt, latchAt, outputAt, gateAt};
-ghost use Rattle.aiger_read.specs.Steps.{rowIn, resetRow, kindAt, HeadIs};
+ghost use Rattle.aiger_read.specs.Private.Steps.{rowIn, resetRow, kindAt, HeadIs};
 
 // The most variables, not counting variable 0.
 const MAX_VARIABLES: usize = 4095;

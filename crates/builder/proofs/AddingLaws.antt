@@ -9,7 +9,7 @@ use lib.Seq.{sets, length-sets}
 use Rattle.text.proofs.WriterLaws.{sets-append}
 use Rattle.circuit.specs.Gates.{Gate}
 use Rattle.circuit.specs.Numbers.{operands}
-use Rattle.builder.specs.Adding.{Added, Room, Going, Splits}
+use Rattle.builder.specs.Private.Adding.{Added, Room, Going, Splits}
 
 pub words-length : (xs : List Gate) → length (operands xs) ≡ 2 * length xs
 words-length [] = refl
@@ -64,7 +64,6 @@ going-room {f} {l} {m} {n} {i} {whole} {rest} {s} {rest′} o e r =
     let h : length rest ≡ length s + length rest′ = ap length (e .is) ∙ length-append s rest′ in
     record {
       from = o .on;
-      room = omega (arith, o .count, o .from, o .on, r .room, going-kept o, h);
       few = omega (arith, o .count, r .few, h);
     }
 
@@ -77,14 +76,13 @@ kept {f} {l} {r} {i} {k} {s} p = ap length (p .words) ∙ length-sets l (2 * (i 
 pub room-first : {f : ℕ} {l : List ℕ} {n : ℕ} {all s t : List Gate} → Splits all s t → Room f l n (length all) → Room f l n (length s)
 room-first {f} {l} {n} {all} {s} {t} e r =
     let h : length all ≡ length s + length t = ap length (e .is) ∙ length-append s t in
-    record { from = r .from; room = omega (arith, r .room, h); few = omega (arith, r .few, h) }
+    record { from = r .from; few = omega (arith, r .few, h) }
 
 pub room-second : {f : ℕ} {l m : List ℕ} {n k : ℕ} {all s t : List Gate} → Splits all s t → Room f l n (length all) → Added f l m n k s → Room f m k (length t)
 room-second {f} {l} {m} {n} {k} {all} {s} {t} e r p =
     let h : length all ≡ length s + length t = ap length (e .is) ∙ length-append s t in
     record {
       from = omega (arith, r .from, p .count);
-      room = omega (arith, r .from, r .room, p .count, h, kept p);
       few = omega (arith, r .few, p .count, h);
     }
 

@@ -13,10 +13,10 @@ use Rattle.assertion.specs.Graph.{Edge, Graph, isTerminal}
 use Rattle.circuit.specs.Gates.{lit, inv, gate, Piece}
 use Rattle.circuit.specs.Build.{init, Two, Pieces, masks, orFrom, orAll, happyTerms, condemnedTerms, happyOr, condemnedOr, vertexPieces, edgePiece, edgePieces, andFrom, andAll, acceptTerms, firstEdgeLatch, firstGate, masked, gathered, judged, accepted, gatesOf}
 use Rattle.circuit.specs.Numbers.{edgeLatches}
-use Rattle.builder.specs.Adding.{Splits, Added}
-use Rattle.builder.specs.Terms.{maskGates, everyOther, termsOf, orOn, vertexHappy, vertexCondemned, vertexOf, verticesOf, acceptOf, Gathers}
-use Rattle.builder.specs.Edges.{two, edgeOf, edgesOf, targets, marks, markOf}
-use Rattle.builder.specs.Monitor.{gatherOf, gatherGates, judgeGates, acceptAfter, monitorGates, monitorAccept, monitorEdges, JudgeMade, MonitorMade, edgePairs}
+use Rattle.builder.specs.Private.Adding.{Splits, Added}
+use Rattle.builder.specs.Private.Terms.{maskGates, everyOther, termsOf, orOn, vertexHappy, vertexCondemned, vertexOf, verticesOf, acceptOf, Gathers}
+use Rattle.builder.specs.Private.Edges.{two, edgeOf, edgesOf, targets, marks, markOf}
+use Rattle.builder.specs.Private.Monitor.{gatherOf, gatherGates, judgeGates, acceptAfter, monitorGates, monitorAccept, monitorEdges, JudgeMade, MonitorMade, edgePairs}
 use Rattle.builder.proofs.AddingLaws.{whole-of}
 
 abbrev happies : List Two → List ℕ

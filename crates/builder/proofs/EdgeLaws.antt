@@ -13,9 +13,9 @@ use Rattle.graph.specs.Held.{noArc}
 use Rattle.graph.specs.declared.Arc.{Arc}
 use Rattle.graph.specs.declared.CheckedGraph.{CheckedGraph}
 use Rattle.circuit.specs.Build.{formula, edgePiece, tokenGates}
-use Rattle.builder.specs.Adding.{Splits}
-use Rattle.builder.specs.Terms.{tokensOf}
-use Rattle.builder.specs.Edges.{namesIn, edgeIn, edgesFrom, edgesIn, two, edgeOf, edgesOf, arcTargets, arcMarks, markOf, targets, marks}
+use Rattle.builder.specs.Private.Adding.{Splits}
+use Rattle.builder.specs.Private.Terms.{tokensOf}
+use Rattle.builder.specs.Private.Edges.{namesIn, edgeIn, edgesFrom, edgesIn, two, edgeOf, edgesOf, arcTargets, arcMarks, markOf, targets, marks}
 
 tokens : (m a c h d : ℕ) → tokenGates m a c (two h d) ≡ tokensOf m a c h d
 unfolding tokensOf

@@ -9,7 +9,7 @@ use lib.ListN.{length, drop}
 use Rattle.assertion.specs.Graph.{Bytes, Graph}
 use Rattle.graph.specs.Reading.{accepted, graphOf}
 use Rattle.graph.specs.Held.{heldOf}
-use Rattle.graph.specs.Steps.{Kept}
+use Rattle.graph.specs.Private.Steps.{Kept}
 use Rattle.graph.specs.declared.CheckedGraph.{CheckedGraph}
 use Rattle.circuit.specs.Build.{firstEdgeLatch, firstGate, gatesOf}
 use Rattle.circuit.specs.Build as circuit
@@ -19,8 +19,8 @@ use Rattle.circuit.proofs.Count.{count}
 use Rattle.builder.specs.declared.Cause.the-variants.{TooManyVariables, ShortBuffer}
 use Rattle.builder.specs.declared.Built.the-variants as built
 use Rattle.builder.specs.Build.{variablesOf, buildEnd, buildAs}
-use Rattle.builder.specs.Edges.{GraphGood, Accepted}
-use Rattle.builder.specs.Monitor.{frontOf, edgePairs, gatesIn, frontIn, numbersIn, monitorEdges}
+use Rattle.builder.specs.Private.Edges.{GraphGood, Accepted}
+use Rattle.builder.specs.Private.Monitor.{frontOf, edgePairs, gatesIn, frontIn, numbersIn, monitorEdges}
 use Rattle.builder.proofs.BuildLaws.{gates-are, output-is, latches-are}
 use Rattle.builder.proofs.LayoutLaws as layout
 use Rattle.builder.proofs.GraphLaws as held

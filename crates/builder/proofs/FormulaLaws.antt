@@ -22,14 +22,14 @@ use Rattle.formula.specs.Reading.{nameWord, byteWord, postfix, padded, answerOf
 use Rattle.formula.proofs.PostfixLaws.{NameIn, InField, name-place, name-length, name-word-small, byte-word-large, byte-word-back, field-short, in-field, words-few}
 use Rattle.graph.specs.Pieces.{pieceAt, placeOf, lookUp}
 use Rattle.graph.specs.Pieces as pieces
-use Rattle.graph.specs.Steps.{listed}
+use Rattle.graph.specs.Private.Steps.{listed}
 use Rattle.graph.specs.Reading.{joined, symbol, resolved, judgedTree, judgedFormula, treeExpr}
 use Rattle.graph.specs.declared.Found.{Found}
 use Rattle.graph.specs.declared.Judged.the-variants.{Fine}
 use Rattle.circuit.specs.Gates.{lit, inv, Gate, Piece, andOf, orOf, xorOf, sameOf, after}
 use Rattle.circuit.specs.Build.{formula}
-use Rattle.builder.specs.Adding.{Added, Room, Going, Splits}
-use Rattle.builder.specs.Machine.{plain, nameLiteral, operated, byteMade, wordMade, takenBy, taken, Ran, ran, program, Enough, stackOf}
+use Rattle.builder.specs.Private.Adding.{Added, Room, Going, Splits}
+use Rattle.builder.specs.Private.Machine.{plain, nameLiteral, operated, byteMade, wordMade, takenBy, taken, Ran, ran, program, Enough, stackOf}
 use Rattle.builder.proofs.AddingLaws.{begin, go, done, going-room}
 
 -- ---- a name

@@ -20,7 +20,7 @@ use Rattle.graph.specs.declared.Judged.the-variants.{Fine}
 use Rattle.graph.proofs.HeldLaws.{FormulaSound, EdgeSound, sound}
 use Rattle.circuit.proofs.Fits.{Scoped, EdgeFits, AllFit, Fits}
 use Rattle.builder.proofs.EdgeLaws.{from-length}
-use Rattle.builder.specs.Edges.{namesIn, edgeIn, edgesFrom, edgesIn, ArcGood, GraphGood}
+use Rattle.builder.specs.Private.Edges.{namesIn, edgeIn, edgesFrom, edgesIn, ArcGood, GraphGood}
 
 -- ---- formulas
 module _ (ss cs : List Bytes) (s : Bytes) where

@@ -11,9 +11,9 @@ use Rattle.text.proofs.WriterLaws.{sets-append}
 use Rattle.assertion.specs.Graph.{Bytes, Edge}
 use Rattle.graph.specs.declared.CheckedGraph.{CheckedGraph}
 use Rattle.circuit.specs.Numbers.{constantLatches, operands}
-use Rattle.builder.specs.Adding.{Room}
-use Rattle.builder.specs.Edges.{edgesIn, edgeOf, edgesOf, GraphGood}
-use Rattle.builder.specs.Monitor.{edgePairs, headerOf, frontOf, monitorGates, monitorEdges, MonitorMade, latchIn, gateIn, gatesIn, frontIn, numbersIn}
+use Rattle.builder.specs.Private.Adding.{Room}
+use Rattle.builder.specs.Private.Edges.{edgesIn, edgeOf, edgesOf, GraphGood}
+use Rattle.builder.specs.Private.Monitor.{edgePairs, headerOf, frontOf, monitorGates, monitorEdges, MonitorMade, latchIn, gateIn, gatesIn, frontIn, numbersIn}
 use Rattle.builder.proofs.AddingLaws.{words-length, kept}
 use Rattle.builder.proofs.EdgeLaws.{edges-count}
 
@@ -106,7 +106,6 @@ module _ (text : Bytes) (g : CheckedGraph) (good : GraphGood text g) where
     room few =
         record {
           from = omega arith;
-          room = omega (arith, numbers-length, length-take-le (length net - base) (drop base net) (omega (arith, length-drop base net)));
           few = omega arith;
         }
 

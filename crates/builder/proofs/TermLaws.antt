@@ -13,10 +13,10 @@ use Rattle.netlist.specs.Literals.{literalOf}
 use Rattle.circuit.specs.Gates.{lit, inv, gate}
 use Rattle.circuit.specs.Build.{init}
 use Rattle.circuit.specs.Numbers.{constantLatches}
-use Rattle.builder.specs.Adding.{Going, Splits}
+use Rattle.builder.specs.Private.Adding.{Going, Splits}
 use Rattle.builder.proofs.AddingLaws.{begin}
-use Rattle.builder.specs.Monitor.{edgePairs}
-use Rattle.builder.specs.Terms.{maskGates, everyOther, termsOf, orOn, stepOr, vertexOf, vertexHappy, vertexCondemned, verticesOf}
+use Rattle.builder.specs.Private.Monitor.{edgePairs}
+use Rattle.builder.specs.Private.Terms.{maskGates, everyOther, termsOf, orOn, stepOr, vertexOf, vertexHappy, vertexCondemned, verticesOf}
 
 -- a counted piece
 pub mask-step : (l i count : ℕ) → i < count → Splits (maskGates (l + i) (count - i)) (gate (lit (l + i)) (literalOf init true) ∷ []) (maskGates (l + (i + 1)) (count - (i + 1)))

@@ -2,7 +2,7 @@
 ghost use mathlib.Core.Path.{_≡_};
 ghost use Prim.Native.Nat.{_≤_};
 ghost use lib.ListN.{length, take};
-ghost use Rattle.builder.specs.Edges.{markOf, arcTargets, arcMarks};
+ghost use Rattle.builder.specs.Private.Edges.{markOf, arcTargets, arcMarks};
 use crate::chains::TERMINAL;
 use graph::CheckedGraph;
 

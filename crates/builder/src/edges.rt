@@ -2,8 +2,8 @@
 ghost use Prim.Native.Nat.{_≤_, _<_};
 ghost use lib.ListN.{length, getD, take};
 ghost use Rattle.graph.specs.Held.{noArc};
-ghost use Rattle.builder.specs.Adding.{Room};
-ghost use Rattle.builder.specs.Edges.{namesIn, edgeIn, edgesIn, ArcGood, GraphGood, edgeOf, edgesOf, EdgeMade, EdgesMade, two};
+ghost use Rattle.builder.specs.Private.Adding.{Room};
+ghost use Rattle.builder.specs.Private.Edges.{namesIn, edgeIn, edgesIn, ArcGood, GraphGood, edgeOf, edgesOf, EdgeMade, EdgesMade, two};
 ghost use Rattle.circuit.specs.Build.{edgePiece};
 use crate::Both;
 use crate::formulas::put_formula;

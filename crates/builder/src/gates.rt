@@ -2,9 +2,10 @@
 ghost use mathlib.Core.Path.{_≡_};
 ghost use mathlib.Core.List.{[], _∷_};
 ghost use Prim.Native.Nat.{_≤_};
+ghost use lib.ListN.{set};
 ghost use Rattle.netlist.specs.Literals.{literalOf};
 ghost use Rattle.circuit.specs.Gates.{inv, gate};
-ghost use Rattle.builder.specs.Adding.{Added, Room};
+ghost use Rattle.builder.specs.Private.Adding.{Added, Room};
 use netlist::Literal;
 use netlist::Variable;
 
@@ -42,13 +43,22 @@ fn smaller(a: u16, b: u16) -> u16
     if b <= a { b } else { a }
 }
 
+// A number into the buffer, where it has that place.
+fn store(out: &mut [u16], at: usize, v: u16)
+    ensures { λ _. ⌜ now (out .exit) ≡ set (now (out .entry)) at v ⌝ }
+{
+    if at < out.len() {
+        out[at] = v;
+    }
+}
+
 // Stores the gate of the variable n, the larger operand first.
 pub(crate) fn put_gate(out: &mut [u16], f: usize, n: usize, a: u16, b: u16) -> usize
     requires { ⌜ Room f (now out) n 1 ⌝ }
     ensures { λ r. ⌜ Added f (now (out .entry)) (now (out .exit)) n r (gate a b ∷ []) ⌝ }
 {
     let at = 2 * (n - f);
-    out[at] = larger(a, b);
-    out[at + 1] = smaller(a, b);
+    store(out, at, larger(a, b));
+    store(out, at + 1, smaller(a, b));
     n + 1
 }

@@ -4,7 +4,7 @@ ghost use Prim.Native.Nat.{_+_, _*_, _≤_};
 ghost use lib.ListN.{length, take};
 ghost use lib.Seq.{sets};
 ghost use Rattle.circuit.specs.Numbers.{constantLatches};
-ghost use Rattle.builder.specs.Monitor.{edgePairs};
+ghost use Rattle.builder.specs.Private.Monitor.{edgePairs};
 use crate::gates::literal;
 
 // The constants' latches: next and reset are their own literals.

@@ -12,7 +12,7 @@ ghost use Rattle.assertion.specs.Graph.{Graph};
 ghost use Rattle.graph.specs.Reading.{accepted, graphOf};
 ghost use Rattle.builder.specs.Build.{refusalOf, buildEnd, buildAs, buildOf};
 ghost use Rattle.builder.specs.Claims.{BuildMeans};
-ghost use Rattle.builder.specs.Edges.{Accepted};
+ghost use Rattle.builder.specs.Private.Edges.{Accepted};
 
 mod chains;
 mod columns;

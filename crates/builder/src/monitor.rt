@@ -1,9 +1,9 @@
 // All gates of the monitor.
 ghost use Prim.Native.Nat.{_+_, _*_, _≤_};
 ghost use lib.ListN.{length, take};
-ghost use Rattle.builder.specs.Adding.{Room};
-ghost use Rattle.builder.specs.Edges.{edgesIn, GraphGood};
-ghost use Rattle.builder.specs.Monitor.{judgeGates, JudgeMade, monitorGates, MonitorMade};
+ghost use Rattle.builder.specs.Private.Adding.{Room};
+ghost use Rattle.builder.specs.Private.Edges.{edgesIn, GraphGood};
+ghost use Rattle.builder.specs.Private.Monitor.{judgeGates, JudgeMade, monitorGates, MonitorMade};
 use crate::Made;
 use crate::chains::put_accept;
 use crate::columns::fill_columns;

@@ -2,9 +2,9 @@
 ghost use mathlib.Core.Path.{_≡_};
 ghost use Prim.Native.Nat.{_+_, _*_, _≤_};
 ghost use lib.ListN.{length, take};
-ghost use Rattle.builder.specs.Adding.{Added, Room};
-ghost use Rattle.builder.specs.Terms.{maskGates, everyOther, vertexOf, verticesOf};
-ghost use Rattle.builder.specs.Monitor.{gatherOf, gatherGates};
+ghost use Rattle.builder.specs.Private.Adding.{Added, Room};
+ghost use Rattle.builder.specs.Private.Terms.{maskGates, everyOther, vertexOf, verticesOf};
+ghost use Rattle.builder.specs.Private.Monitor.{gatherOf, gatherGates};
 use crate::Both;
 use crate::chains::put_or;
 use crate::gates::INIT;

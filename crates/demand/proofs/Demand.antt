@@ -23,17 +23,17 @@ use Rattle.circuit.proofs.Count.{count, bound}
 use Rattle.circuit.proofs.Places.{latch-count, reset-edge, free-constant, free-edge, free-before}
 use Rattle.circuit.proofs.Machine.{flatTokens, latchesOf, flat-length}
 use Rattle.circuit.proofs.Netlist.{numbers-netlist}
-use Rattle.simulator.specs.declared.refusal.Checked.{Checked}
-use Rattle.simulator.specs.declared.refusal.Checked.the-variants.{Passed, Failed}
-use Rattle.simulator.specs.declared.tally.Tally.{Tally}
-use Rattle.simulator.specs.Tallies.{cleared}
-use Rattle.simulator.specs.Traces.{cyclesOf}
-use Rattle.simulator.specs.Refusals.{startCheck, stepCheck, runCheck}
+use Rattle.calls.specs.declared.refusal.Checked.{Checked}
+use Rattle.calls.specs.declared.refusal.Checked.the-variants.{Passed, Failed}
+use Rattle.calls.specs.declared.tally.Tally.{Tally}
+use Rattle.calls.specs.Tallies.{cleared}
+use Rattle.trace.specs.Traces.{cyclesOf}
+use Rattle.calls.specs.Refusals.{startCheck, stepCheck, runCheck}
 use Rattle.simulator.specs.Start.{startBit, startWords, startAs, startOf}
 use Rattle.simulator.specs.Step.{stepAs, stepOf}
 use Rattle.simulator.specs.Run.{running, runCycles, ranTo, runAs, runOf}
-use Rattle.simulator.proofs.TraceLaws.{cycle-length, Cycles, lines-are-cycles}
-use Rattle.simulator.proofs.RefusalLaws.{step-passed, run-passed}
+use Rattle.trace.proofs.TraceLaws.{cycle-length, Cycles, lines-are-cycles}
+use Rattle.calls.proofs.RefusalLaws.{step-passed, run-passed}
 use Rattle.simulator.proofs.StartLaws.{length-starts, start-at}
 use Rattle.demand.specs.Calls.{Call, stepCall, runCall, Kept, Called, called, stepGives, runGives}
 use Rattle.demand.specs.Demand.{BytesRight, Counted, keptBy, Demand3}

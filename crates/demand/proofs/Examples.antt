@@ -13,11 +13,11 @@ use Rattle.assertion.specs.Graph.{Bytes, signal, Graph, isTerminal}
 use Rattle.circuit.specs.Build.{firstEdgeLatch, firstGate, formula, happyOr, condemnedOr, edgePiece, masked, gathered, judged, accepted, gatesOf}
 use Rattle.circuit.specs.Numbers.{numbersOf}
 use Rattle.circuit.proofs.Fits.{Fits}
-use Rattle.simulator.specs.declared.refusal.Checked.the-variants.{Passed}
-use Rattle.simulator.specs.declared.tally.Tally.{Tally}
-use Rattle.simulator.specs.Tallies.{isRejected, counted, hasRoom}
-use Rattle.simulator.specs.Traces.{isBit, fitsLine, faultFrom, faultOf, lineCount, cyclesFrom, cyclesOf}
-use Rattle.simulator.specs.Refusals.{isShort, hasLatches, hasValues, startCheck, runCheck}
+use Rattle.calls.specs.declared.refusal.Checked.the-variants.{Passed}
+use Rattle.calls.specs.declared.tally.Tally.{Tally}
+use Rattle.calls.specs.Tallies.{isRejected, counted, hasRoom}
+use Rattle.trace.specs.Traces.{isBit, fitsLine, faultFrom, faultOf, lineCount, cyclesFrom, cyclesOf}
+use Rattle.calls.specs.Refusals.{isShort, hasLatches, hasValues, startCheck, runCheck}
 use Rattle.simulator.specs.Start.{startBit, startWords, startAs, startOf}
 use Rattle.simulator.specs.Step.{cycleWords, outputWord, latchesAfter, valuesAfter}
 use Rattle.simulator.specs.Run.{verdictByte, runCycle, runCycles, ranTo, runAs, runOf}

@@ -19,8 +19,8 @@ use Rattle.circuit.proofs.Tokens.{Token, rejecting}
 use Rattle.circuit.proofs.Lanes.{laneSetting, laneTokens, laneAccepts, setting-length, tokens-length, tokens-more, lanes}
 use Rattle.circuit.proofs.Places.{inputs-are}
 use Rattle.circuit.proofs.Machine.{latchesOf, moves-next, moves-output}
-use Rattle.simulator.specs.declared.tally.Tally.{Tally}
-use Rattle.simulator.specs.Tallies.{counted}
+use Rattle.calls.specs.declared.tally.Tally.{Tally}
+use Rattle.calls.specs.Tallies.{counted}
 use Rattle.simulator.specs.Step.{cycleWords, outputWord, latchesAfter}
 use Rattle.simulator.specs.Run.{verdictByte, Running, runCycle, runCycles}
 
@@ -101,8 +101,8 @@ module _ (g : Graph) (fits : Fits g) (surplus : List ℕ) where
         ∙ ap (λ (ts : List Token). not (rejecting g (g .edges) ts)) (sym (tokens-more g seen c n))
 
     -- the cycle is rejected just where the paths say so
-    judged : Rattle.simulator.specs.Tallies.isRejected w ≡ isRejected g (seen ++ (c ∷ []))
-    unfolding Rattle.simulator.specs.Tallies.isRejected
+    judged : Rattle.calls.specs.Tallies.isRejected w ≡ isRejected g (seen ++ (c ∷ []))
+    unfolding Rattle.calls.specs.Tallies.isRejected
     judged =
         ap not (each-same 64 (λ n. lane n w) (laneAccepts g (seen ++ (c ∷ []))) output-lane)
         ∙ lanes g (seen ++ (c ∷ [])) (fits .constants)

@@ -5,12 +5,12 @@ use mathlib.Core.List.{List, [], _∷_}
 use Prim.Native.Nat.{ℕ}
 use Rattle.netlist.specs.Layout.{inputCount}
 use Rattle.assertion.specs.Graph.{Cycle}
-use Rattle.simulator.specs.declared.tally.Tally.{Tally}
+use Rattle.calls.specs.declared.tally.Tally.{Tally}
 use Rattle.simulator.specs.declared.outcome.StepOutcome.{StepOutcome}
 use Rattle.simulator.specs.declared.outcome.StepOutcome.the-variants as step
 use Rattle.simulator.specs.declared.outcome.RunOutcome.{RunOutcome}
 use Rattle.simulator.specs.declared.outcome.RunOutcome.the-variants as run
-use Rattle.simulator.specs.Traces.{cyclesOf}
+use Rattle.trace.specs.Traces.{cyclesOf}
 use Rattle.simulator.specs.Step.{StepEnd, stepOf}
 use Rattle.simulator.specs.Run.{RunEnd, runOf}
 

@@ -7,9 +7,9 @@ use lib.ListN.{length, take}
 use Rattle.netlist.specs.Valid.{isNetlist}
 use Rattle.assertion.specs.Graph.{Graph, Cycle}
 use Rattle.assertion.specs.Paths.{verdicts, countRejected}
-use Rattle.simulator.specs.declared.refusal.Checked.the-variants.{Passed}
-use Rattle.simulator.specs.declared.tally.Tally.{Tally}
-use Rattle.simulator.specs.Refusals.{startCheck}
+use Rattle.calls.specs.declared.refusal.Checked.the-variants.{Passed}
+use Rattle.calls.specs.declared.tally.Tally.{Tally}
+use Rattle.calls.specs.Refusals.{startCheck}
 use Rattle.simulator.specs.Start.{StartEnd, startOf}
 use Rattle.circuit.specs.Count.{gateFormula, allOperators}
 use Rattle.demand.specs.Calls.{Call, stepCall, runCall, Kept, Called, called}

@@ -5,7 +5,7 @@ use mathlib.Core.Path.{_≡_}
 use mathlib.Core.List.{List, []}
 use Prim.Native.Nat.{ℕ}
 use Rattle.netlist.specs.Layout.{inputCount}
-use Rattle.simulator.specs.declared.tally.Tally.{Tally}
+use Rattle.calls.specs.declared.tally.Tally.{Tally}
 use Rattle.simulator.specs.declared.outcome.StartOutcome.{StartOutcome}
 use Rattle.simulator.specs.declared.outcome.StepOutcome.{StepOutcome}
 use Rattle.simulator.specs.declared.outcome.RunOutcome.{RunOutcome}

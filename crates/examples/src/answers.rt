@@ -2,9 +2,9 @@
 use aiger::Written;
 use aiger_read::ReadOutcome;
 use builder::Built;
+use calls::Tally;
 use simulator::Ran;
 use simulator::RunOutcome;
-use simulator::Tally;
 use text::Refusal;
 
 // Room for the numbers of any netlist, and for its latch and value words.

@@ -11,7 +11,7 @@ use Rattle.formula.specs.declared.readers.Read.{Read}
 use Rattle.formula.specs.declared.readers.Read.the-variants.{Failed, Done}
 use Rattle.formula.specs.Grammar.{Got, failed, got, expressionOf, depthOf, none, tree, whole, treeOf}
 use Rattle.formula.specs.Reading.{postfix, padded, answerOf, formulaOf}
-use Rattle.formula.specs.Readers.{Reads}
+use Rattle.formula.specs.Private.Readers.{Reads}
 use Rattle.formula.proofs.Steps as steps
 
 -- Words stored into zeros.

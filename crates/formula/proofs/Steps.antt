@@ -38,7 +38,7 @@ use Rattle.formula.specs.Grammar.{
   depthOf,
 }
 use Rattle.formula.specs.Reading.{nameWord, byteWord, postfix}
-use Rattle.formula.specs.Readers.{
+use Rattle.formula.specs.Private.Readers.{
   Room,
   LeftRoom,
   Within,

@@ -5,6 +5,7 @@ use mathlib.Core.Bool.{Bool, true, false}
 use mathlib.Core.List.{List, [], _∷_}
 use lib.Dec.{leb, eqb}
 use lib.ListN.{length}
+use Rattle.text.specs.Quoted.{byte}
 use Rattle.formula.specs.declared.Class.{Class}
 use Rattle.formula.specs.declared.Class.the-variants.{Other, Letter, Digit, Underscore, Operator, Opening, Closing, Tab, Lf}
 use Rattle.formula.specs.declared.Start.{Start}
@@ -22,24 +23,24 @@ within lo hi b = pick (leb lo b) (leb b hi) false
 -- `(` and `)`.
 unfoldable pub classOf : ℕ → Class
 classOf b =
-    pick (within 65 90 b) Letter
-    (pick (within 97 122 b) Letter
-    (pick (within 48 57 b) Digit
-    (pick (eqb b 95) Underscore
-    (pick (eqb b 33) Operator
-    (pick (eqb b 38) Operator
-    (pick (eqb b 94) Operator
-    (pick (eqb b 124) Operator
-    (pick (eqb b 61) Operator
-    (pick (eqb b 40) Opening
-    (pick (eqb b 41) Closing
-    (pick (eqb b 9) Tab
-    (pick (eqb b 10) Lf Other))))))))))))
+    pick (within (byte "A") (byte "Z") b) Letter
+    (pick (within (byte "a") (byte "z") b) Letter
+    (pick (within (byte "0") (byte "9") b) Digit
+    (pick (eqb b (byte "_")) Underscore
+    (pick (eqb b (byte "!")) Operator
+    (pick (eqb b (byte "&")) Operator
+    (pick (eqb b (byte "^")) Operator
+    (pick (eqb b (byte "|")) Operator
+    (pick (eqb b (byte "=")) Operator
+    (pick (eqb b (byte "(")) Opening
+    (pick (eqb b (byte ")")) Closing
+    (pick (eqb b (byte "\t")) Tab
+    (pick (eqb b (byte "\n")) Lf Other))))))))))))
 
 -- how tightly an operator between two operands binds: `&`, then `^`, `|`, and `=` loosest; any other
 -- byte is none
 unfoldable pub strengthOf : ℕ → ℕ
-strengthOf b = pick (eqb b 38) 4 (pick (eqb b 94) 3 (pick (eqb b 124) 2 (pick (eqb b 61) 1 0)))
+strengthOf b = pick (eqb b (byte "&")) 4 (pick (eqb b (byte "^")) 3 (pick (eqb b (byte "|")) 2 (pick (eqb b (byte "=")) 1 0)))
 
 unfoldable pub isLetter : Class → Bool
 isLetter Letter = true
@@ -70,10 +71,10 @@ inName b = isWordClass (classOf b)
 -- `!`, `(`, `0` or `1`, a letter, or a byte that starts no operand
 unfoldable pub startOf : ℕ → Start
 startOf b =
-    pick (eqb b 33) Not
-    (pick (eqb b 40) Group
-    (pick (eqb b 48) Bit
-    (pick (eqb b 49) Bit
+    pick (eqb b (byte "!")) Not
+    (pick (eqb b (byte "(")) Group
+    (pick (eqb b (byte "0")) Bit
+    (pick (eqb b (byte "1")) Bit
     (pick (isLetter (classOf b)) Name Nothing))))
 
 -- how many name bytes stand in front

@@ -7,6 +7,7 @@ use mathlib.Core.Bool.{Bool, true, false}
 use mathlib.Core.List.{List, [], _∷_, _++_}
 use lib.Dec.{ltb, leb, eqb}
 use lib.ListN.{length, getD, drop}
+use Rattle.text.specs.Quoted.{byte}
 use Rattle.formula.specs.Classes.{pick, strengthOf, startOf, run}
 use Rattle.formula.specs.declared.Start.{Start}
 use Rattle.formula.specs.declared.Start.the-variants.{Not, Group, Bit, Name, Nothing}
@@ -35,7 +36,7 @@ nameOf at n = pick (leb n 15) (got (name at n) (at + n)) failed
 
 -- the closing bracket after a formula
 unfoldable pub closed : List ℕ → Tree → ℕ → Got
-closed s e to = pick (eqb (getD s to 0) 41) (got (group e) (to + 1)) failed
+closed s e to = pick (eqb (getD s to 0) (byte ")")) (got (group e) (to + 1)) failed
 
 unfoldable mutual
   -- `!` and an operand; a formula in brackets; `0` or `1`; a name

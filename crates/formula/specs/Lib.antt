@@ -1,6 +1,5 @@
--- The root of the definitions that the contracts of formula cite, in reading order. Readers only serves
--- the private readers.
+-- The root of the definitions that the contracts of formula cite, in reading order.
 pub mod Classes
 pub mod Grammar
 pub mod Reading
-pub mod Readers
+pub mod Private

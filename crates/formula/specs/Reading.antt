@@ -4,6 +4,7 @@ use Prim.Native.Nat.{ℕ, _+_, _*_, _-_}
 use mathlib.Core.Bool.{Bool, true, false}
 use mathlib.Core.List.{List, [], _∷_, _++_}
 use lib.ListN.{length, replicate}
+use Rattle.text.specs.Quoted.{byte}
 use Rattle.formula.specs.Grammar.{Tree, name, bit, not, group, join, Parsed, none, tree, treeOf, depthOf}
 use Rattle.formula.specs.declared.Formula.{Formula}
 
@@ -19,7 +20,7 @@ byteWord b = 4096 + b
 unfoldable pub postfix : Tree → List ℕ
 postfix (name at n) = nameWord at n ∷ []
 postfix (bit b) = byteWord b ∷ []
-postfix (not e) = postfix e ++ (byteWord 33 ∷ [])
+postfix (not e) = postfix e ++ (byteWord (byte "!") ∷ [])
 postfix (group e) = postfix e
 postfix (join b e e2) = (postfix e ++ postfix e2) ++ (byteWord b ∷ [])
 

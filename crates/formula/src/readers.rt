@@ -6,7 +6,7 @@ ghost use Prim.Native.Nat.{ℕ, _+_, _*_, _-_, _≤_, _<_};
 ghost use lib.ListN.{length};
 ghost use Rattle.formula.specs.Grammar.{Got, andThen, operandOf, expressionOf, restOf};
 ghost use Rattle.formula.specs.Reading.{byteWord};
-ghost use Rattle.formula.specs.Readers.{Room, LeftRoom, Within, Writable, Bounds, RestBounds, Reads, leftOver, deeperOf, besideOf, closedOf, countedOf, putOf, namedOf, nameStored};
+ghost use Rattle.formula.specs.Private.Readers.{Room, LeftRoom, Within, Writable, Bounds, RestBounds, Reads, leftOver, deeperOf, besideOf, closedOf, countedOf, putOf, namedOf, nameStored};
 use crate::Start;
 use crate::classes::LONGEST_NAME;
 use crate::classes::name_end;

@@ -13,7 +13,7 @@ use Rattle.assertion.specs.Graph.{Bytes, Edge, Graph}
 use Rattle.graph.specs.Pieces.{lookUp}
 use Rattle.graph.specs.Reading.{namesOf, judgedFormula, lower, addSignal, addConstant, addVertex, edgeOf, unlessFaulty, judgeEdge, addEdge}
 use Rattle.graph.specs.Held.{fieldAt, namePlaces, arcOf, arcsOf, noArc, filled, heldOf}
-use Rattle.graph.specs.Steps.{held, namedOf, recordsOf, Holds, ArcAt, faultyOf, addedOf, withSignal, withConstant, withVertex, withEdge}
+use Rattle.graph.specs.Private.Steps.{held, namedOf, recordsOf, Holds, ArcAt, faultyOf, addedOf, withSignal, withConstant, withVertex, withEdge}
 use Rattle.graph.specs.declared.Fault.{Fault}
 use Rattle.graph.specs.declared.Fault.the-variants.{WrongOrder, TooMany, NameRepeated, UnknownVertex}
 use Rattle.graph.specs.declared.Judged.{Judged}

@@ -10,7 +10,7 @@ use Rattle.assertion.specs.Graph.{Bytes, Graph}
 use Rattle.graph.specs.Pieces.{upTo, endAt, pieceAt}
 use Rattle.graph.specs.Reading.{judgeEdge}
 use Rattle.graph.specs.Held.{lineStart, lineOf, fieldAt, fieldLength}
-use Rattle.graph.specs.Steps.{ArcAt, EdgeAt, arcFrom}
+use Rattle.graph.specs.Private.Steps.{ArcAt, EdgeAt, arcFrom}
 use Rattle.graph.specs.declared.Arc.{Arc}
 use Rattle.graph.proofs.PieceLaws.{part-in}
 

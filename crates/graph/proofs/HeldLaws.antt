@@ -43,7 +43,7 @@ use Rattle.graph.specs.Reading.{
   graphOf,
 }
 use Rattle.graph.specs.Held.{lineStart, lineOf, fieldAt, namePlaces, arcOf, arcsOf, noArc, filled, heldOf}
-use Rattle.graph.specs.Steps.{held, namedOf, recordsOf}
+use Rattle.graph.specs.Private.Steps.{held, namedOf, recordsOf}
 use Rattle.graph.specs.declared.Fault.{Fault}
 use Rattle.graph.specs.declared.Cause.the-variants.{TextTooLong, FaultyLine, NoVertex}
 use Rattle.graph.specs.declared.Judged.{Judged}

@@ -10,7 +10,7 @@ use Rattle.graph.specs.Pieces.{endAt, pieceAt}
 use Rattle.graph.specs.Records.{recordOf}
 use Rattle.graph.specs.Reading.{add, addSignal, addConstant, addVertex, addEdge}
 use Rattle.graph.specs.Held.{lineStart, lineOf, fieldAt}
-use Rattle.graph.specs.Steps.{viewed, FieldOf, Placed, EdgeAt, faultyOf, addedOf}
+use Rattle.graph.specs.Private.Steps.{viewed, FieldOf, Placed, EdgeAt, faultyOf, addedOf}
 use Rattle.graph.specs.declared.Fault.the-variants.{WrongShape}
 use Rattle.graph.specs.declared.CheckedGraph.{CheckedGraph}
 use Rattle.graph.specs.declared.Shape.{Shape}

@@ -11,7 +11,7 @@ use lib.ListN.{length, getD, take, drop, length-map, drop-of-length-le}
 use lib.Seq.{drop-cons, getD-take, length-take-le, take-all}
 use Rattle.assertion.specs.Graph.{Bytes}
 use Rattle.graph.specs.Pieces.{pieceAt, same, placeOf, lookUp}
-use Rattle.graph.specs.Steps.{held}
+use Rattle.graph.specs.Private.Steps.{held}
 use Rattle.graph.specs.declared.Found.{Found}
 
 module _ (text name : Bytes) (starts : List ℕ) (count k : ℕ) (h : count ≤ length starts) where

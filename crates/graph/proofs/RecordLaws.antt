@@ -10,7 +10,7 @@ use Rattle.assertion.specs.Graph.{Bytes}
 use Rattle.graph.specs.Pieces.{split, endAt, pieceAt, same}
 use Rattle.graph.specs.Records.{shapeless, named, marked, edged, ofFields, recordOf}
 use Rattle.graph.specs.Held.{fieldStart}
-use Rattle.graph.specs.Steps.{viewed}
+use Rattle.graph.specs.Private.Steps.{viewed}
 use Rattle.graph.specs.declared.Shape.the-variants.{Wrong, Signal, Constant, Vertex, Edge}
 use Rattle.graph.proofs.PieceLaws.{split-cut, split-last, split-end, split-some}
 

@@ -12,7 +12,7 @@ use Rattle.graph.specs.Pieces.{split, endAt, pieceAt}
 use Rattle.graph.specs.Records.{recordOf}
 use Rattle.graph.specs.Reading.{Step, fault, went, add, refused, finished, readLines, nothing, graphOf}
 use Rattle.graph.specs.Held.{lineStart, lineOf, heldOf, answerOf, readOf}
-use Rattle.graph.specs.Steps.{recordsOf, Holds, Kept, addedOf}
+use Rattle.graph.specs.Private.Steps.{recordsOf, Holds, Kept, addedOf}
 use Rattle.graph.specs.declared.Fault.{Fault}
 use Rattle.graph.specs.declared.Fault.the-variants.{WrongShape}
 use Rattle.graph.specs.declared.Judged.the-variants.{Fine, Faulty}

@@ -16,7 +16,7 @@ use Rattle.formula.proofs.PostfixLaws.{NameIn, InField, name-place, name-length
 use Rattle.assertion.specs.Graph.{Bytes}
 use Rattle.graph.specs.Pieces.{lookUp}
 use Rattle.graph.specs.Reading.{known, judgedTree, judgedFormula}
-use Rattle.graph.specs.Steps.{wordKnown, wordsKnown}
+use Rattle.graph.specs.Private.Steps.{wordKnown, wordsKnown}
 use Rattle.graph.specs.declared.Fault.the-variants.{NotFormula, TooDeep, UnknownName}
 use Rattle.graph.specs.declared.Judged.the-variants.{Fine, Faulty}
 use Rattle.graph.specs.declared.Found.{Found}

@@ -1,7 +1,6 @@
--- The root of the definitions that the contracts of graph cite, in reading order. Steps only serves the
--- private functions.
+-- The root of the definitions that the contracts of graph cite, in reading order.
 pub mod Pieces
 pub mod Records
 pub mod Reading
 pub mod Held
-pub mod Steps
+pub mod Private

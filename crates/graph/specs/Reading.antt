@@ -5,6 +5,7 @@ use mathlib.Core.Bool.{Bool, true, false}
 use mathlib.Core.List.{List, [], _∷_, _++_}
 use lib.Dec.{eqb, ltb, leb}
 use lib.ListN.{length, take, drop}
+use Rattle.text.specs.Quoted.{byte}
 use Rattle.text.specs.declared.Refusal.{Refusal}
 use Rattle.formula.specs.Classes.{pick}
 use Rattle.formula.specs.Grammar.{Tree, name, bit, not, group, join, Parsed, none, tree, treeOf, depthOf}
@@ -52,7 +53,7 @@ known ns s (join b e e2) = pick (known ns s e) (known ns s e2) false
 
 -- `&`, `|`, `^`, `=`
 unfoldable pub joined : ℕ → Expr → Expr → Expr
-joined b x y = pick (eqb b 38) (conj x y) (pick (eqb b 124) (disj x y) (pick (eqb b 94) (xor x y) (same x y)))
+joined b x y = pick (eqb b (byte "&")) (conj x y) (pick (eqb b (byte "|")) (disj x y) (pick (eqb b (byte "^")) (xor x y) (same x y)))
 
 -- of the names the first are signals, m of them, and the others constants
 unfoldable pub symbol : ℕ → ℕ → Expr
@@ -60,7 +61,7 @@ symbol m i = pick (ltb i m) (G.signal i) (G.constant (i - m))
 
 unfoldable pub resolved : ℕ → List Bytes → Bytes → Tree → Expr
 resolved m ns s (name p n) = symbol m (lookUp (take n (drop p s)) ns .place)
-resolved m ns s (bit b) = truth (eqb b 49)
+resolved m ns s (bit b) = truth (eqb b (byte "1"))
 resolved m ns s (not e) = neg (resolved m ns s e)
 resolved m ns s (group e) = resolved m ns s e
 resolved m ns s (join b e e2) = joined b (resolved m ns s e) (resolved m ns s e2)

@@ -1,6 +1,7 @@
 -- The record of a line: its kind and its fields, parted by one tab each. Assumes nothing.
 use mathlib.Core.Bool.{Bool, true, false}
 use mathlib.Core.List.{List, [], _∷_}
+use Rattle.text.specs.Quoted.{byte, bytes}
 use Rattle.formula.specs.Classes.{pick, isName}
 use Rattle.assertion.specs.Graph.{Bytes}
 use Rattle.graph.specs.Pieces.{split, same}
@@ -14,16 +15,16 @@ pub data Record : Type 0 where
 unfoldable pub named : Bytes → Bytes → Record
 named k n =
     pick (isName n)
-    (pick (same k (83 ∷ [])) (signal n) (pick (same k (75 ∷ [])) (constant n) (pick (same k (86 ∷ [])) (vertex n) shapeless)))
+    (pick (same k (bytes "S")) (signal n) (pick (same k (bytes "K")) (constant n) (pick (same k (bytes "V")) (vertex n) shapeless)))
     shapeless
 
 -- the mark: `t` is terminal, `-` is not
 unfoldable pub marked : Bytes → Bytes → Bytes → Bytes → Bytes → Record
-marked f t m a c = pick (same m (116 ∷ [])) (edge f t true a c) (pick (same m (45 ∷ [])) (edge f t false a c) shapeless)
+marked f t m a c = pick (same m (bytes "t")) (edge f t true a c) (pick (same m (bytes "-")) (edge f t false a c) shapeless)
 
 -- `E`, the names of two vertices, a mark, and two formulas, which are judged later
 unfoldable pub edged : Bytes → Bytes → Bytes → Bytes → Bytes → Bytes → Record
-edged k f t m a c = pick (same k (69 ∷ [])) (pick (isName f) (pick (isName t) (marked f t m a c) shapeless) shapeless) shapeless
+edged k f t m a c = pick (same k (bytes "E")) (pick (isName f) (pick (isName t) (marked f t m a c) shapeless) shapeless) shapeless
 
 -- two fields or six
 unfoldable pub ofFields : List Bytes → Record
@@ -37,4 +38,4 @@ ofFields (k ∷ f ∷ t ∷ m ∷ a ∷ c ∷ []) = edged k f t m a c
 ofFields (k ∷ f ∷ t ∷ m ∷ a ∷ c ∷ x ∷ xs) = shapeless
 
 unfoldable pub recordOf : Bytes → Record
-recordOf line = ofFields (split 9 line)
+recordOf line = ofFields (split (byte "\t") line)

@@ -3,7 +3,7 @@ ghost use mathlib.Core.Path.{_≡_};
 ghost use Prim.Native.Nat.{_+_, _^_, _≤_, _<_};
 ghost use lib.ListN.{length};
 ghost use Rattle.graph.specs.Pieces.{pieceAt, lookUp};
-ghost use Rattle.graph.specs.Steps.{listed, Kept, judgedArc, arcFrom, AddsArc, AddsEdge, withEdge};
+ghost use Rattle.graph.specs.Private.Steps.{listed, Kept, judgedArc, arcFrom, AddsArc, AddsEdge, withEdge};
 use crate::Added;
 use crate::Arc;
 use crate::CheckedGraph;

@@ -3,7 +3,7 @@ ghost use mathlib.Core.Path.{_≡_};
 ghost use Prim.Native.Nat.{_≤_};
 ghost use lib.ListN.{length, take};
 ghost use Rattle.graph.specs.Reading.{judgedFormula, lower};
-ghost use Rattle.graph.specs.Steps.{listed, wordKnown, wordsKnown};
+ghost use Rattle.graph.specs.Private.Steps.{listed, wordKnown, wordsKnown};
 use crate::Fault;
 use crate::Judged;
 use crate::fault_number;

@@ -9,7 +9,7 @@ ghost use Rattle.assertion.specs.Paths.{PathsMean};
 ghost use Rattle.graph.specs.Pieces.{endAt};
 ghost use Rattle.graph.specs.Reading.{faultNumber, refusalOf, refused, finished, nothing};
 ghost use Rattle.graph.specs.Held.{heldOf, answerOf, readOf};
-ghost use Rattle.graph.specs.Steps.{Kept, faultyOf, AddsLine};
+ghost use Rattle.graph.specs.Private.Steps.{Kept, faultyOf, AddsLine};
 
 mod edges;
 mod formulas;

@@ -4,7 +4,7 @@ ghost use mathlib.Core.List.{map};
 ghost use Prim.Native.Nat.{_≤_};
 ghost use lib.ListN.{length, take};
 ghost use Rattle.graph.specs.Pieces.{pieceAt, placeOf, lookUp};
-ghost use Rattle.graph.specs.Steps.{listed};
+ghost use Rattle.graph.specs.Private.Steps.{listed};
 use crate::Found;
 use crate::pieces::piece;
 use crate::pieces::same_bytes;

@@ -2,7 +2,7 @@
 ghost use mathlib.Core.Path.{_≡_};
 ghost use Prim.Native.Nat.{_+_, _<_};
 ghost use Rattle.graph.specs.Reading.{addSignal, addConstant, addVertex};
-ghost use Rattle.graph.specs.Steps.{Kept, AddsName, withSignal, withConstant, withVertex};
+ghost use Rattle.graph.specs.Private.Steps.{Kept, AddsName, withSignal, withConstant, withVertex};
 use crate::Added;
 use crate::CheckedGraph;
 use crate::Fault;

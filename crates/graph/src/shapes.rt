@@ -2,7 +2,7 @@
 ghost use lib.ListN.{drop};
 ghost use Rattle.graph.specs.Pieces.{pieceAt};
 ghost use Rattle.graph.specs.Records.{recordOf, named};
-ghost use Rattle.graph.specs.Steps.{FieldOf, Shaped, markedAt, edgedAt};
+ghost use Rattle.graph.specs.Private.Steps.{FieldOf, Shaped, markedAt, edgedAt};
 use crate::Shape;
 use crate::pieces::end_at;
 use crate::pieces::is_byte;

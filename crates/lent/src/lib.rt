@@ -6,10 +6,10 @@ ghost use mathlib.Core.Path.{_≡_};
 ghost use Rattle.simulator.specs.Start.{startEnd, startOf};
 ghost use Rattle.simulator.specs.Step.{stepEnd, stepOf};
 ghost use Rattle.simulator.specs.Run.{runEnd, runOf};
+use calls::Tally;
 use simulator::RunOutcome;
 use simulator::StartOutcome;
 use simulator::StepOutcome;
-use simulator::Tally;
 
 // Starts a run: fills the latch words and clears the tally, which a refusal leaves as it was.
 pub fn start(net: &[u16], latches: &mut [u64], tally: &mut Tally) -> StartOutcome

@@ -16,12 +16,12 @@ use Rattle.builder.specs.Claims.{BuildMeans}
 use Rattle.aiger.specs.Format.{fileOf}
 use Rattle.simulator.specs.declared.outcome.Started.{Started}
 use Rattle.simulator.specs.declared.outcome.Ran.{Ran}
-use Rattle.simulator.specs.Tallies.{cleared}
+use Rattle.calls.specs.Tallies.{cleared}
 use Rattle.simulator.specs.Start.{StartEnd, startEnd, startOf}
 use Rattle.simulator.specs.Run.{RunEnd, runEnd, runOf}
 use Rattle.page_text.specs.Lines.{refusedLine}
 use Rattle.page.specs.Pages.{graphPage, tracePage, aigerText}
-use Rattle.page.specs.Machine.{outcomePage, machineEnd, machinePage}
+use Rattle.page.specs.Private.Machine.{outcomePage, machineEnd, machinePage}
 use Rattle.page.proofs.LengthLaws.{aiger-fits}
 use Rattle.page.proofs.BuildLaws.{build-refused, made-netlist, made-file}
 use Rattle.page.proofs.JudgedLaws.{judged}

@@ -19,13 +19,13 @@ use Rattle.circuit.specs.Numbers as circuit
 use Rattle.builder.specs.Build as build
 use Rattle.aiger.specs.Rows as rows
 use Rattle.aiger.specs.Format as format
-use Rattle.simulator.specs.Traces as traces
+use Rattle.trace.specs.Traces as traces
 use Rattle.simulator.specs.Run as run
 use Rattle.page_text.specs.Parts as parts
 use Rattle.page_text.specs.Lines as lines
 use Rattle.page.specs.Pages as pages
 use Rattle.page.specs.Pages.{monitorText, aigerText}
-use Rattle.page.proofs.Letters.{bytes}
+use Rattle.text.specs.Quoted.{bytes}
 
 -- an input and what is printed of it
 record Row : Type 0 where

@@ -22,26 +22,26 @@ use Rattle.circuit.proofs.Places.{inputs-are}
 use Rattle.builder.specs.declared.Built.the-variants.{Gates}
 use Rattle.builder.specs.Build.{buildOf}
 use Rattle.builder.specs.Claims.{BuildMeans}
-use Rattle.simulator.specs.declared.refusal.Cause.the-variants.{WrongLine}
-use Rattle.simulator.specs.declared.refusal.Checked.{Checked}
-use Rattle.simulator.specs.declared.refusal.Checked.the-variants.{Passed, Failed}
+use Rattle.calls.specs.declared.refusal.Cause.the-variants.{WrongLine}
+use Rattle.calls.specs.declared.refusal.Checked.{Checked}
+use Rattle.calls.specs.declared.refusal.Checked.the-variants.{Passed, Failed}
 use Rattle.simulator.specs.declared.outcome.RunOutcome.{RunOutcome}
 use Rattle.simulator.specs.declared.outcome.RunOutcome.the-variants.{Done}
-use Rattle.simulator.specs.declared.tally.Tally.{Tally}
-use Rattle.simulator.specs.Tallies.{cleared}
-use Rattle.simulator.specs.Traces.{faultOf, lineCount, cyclesOf}
-use Rattle.simulator.specs.Refusals.{refusalOf, isShort, hasLatches, hasValues, startCheck, runCheck}
+use Rattle.calls.specs.declared.tally.Tally.{Tally}
+use Rattle.calls.specs.Tallies.{cleared}
+use Rattle.trace.specs.Traces.{faultOf, lineCount, cyclesOf}
+use Rattle.calls.specs.Refusals.{refusalOf, isShort, hasLatches, hasValues, startCheck, runCheck}
 use Rattle.simulator.specs.Start.{startWords, startAs, startOf}
 use Rattle.simulator.specs.Run.{verdictByte, verdictOf, RunEnd, runAs, runOf}
-use Rattle.simulator.proofs.TallyLaws.{room}
-use Rattle.simulator.proofs.TraceLaws.{lines-fit}
+use Rattle.calls.proofs.TallyLaws.{room}
+use Rattle.trace.proofs.TraceLaws.{lines-fit}
 use Rattle.simulator.proofs.StartLaws.{length-starts}
 use Rattle.simulator.proofs.RunMeaning.{outputsOf, bytesOf, length-outputs, run-verdicts, run-outcome}
 use Rattle.demand.specs.Calls.{runCall, called, runGives}
 use Rattle.demand.specs.Demand.{BytesRight, Counted, keptBy, Demand3}
 use Rattle.page_text.specs.Lines.{refusedLine, report}
 use Rattle.page.specs.Pages.{graphPage, inputsOf, judgement, tracePage}
-use Rattle.page.specs.Machine.{outcomePage, machineEnd, machinePage}
+use Rattle.page.specs.Private.Machine.{outcomePage, machineEnd, machinePage}
 use Rattle.page.proofs.BuildLaws.{Made, build-made}
 
 -- a netlist and a trace of a program's input; the words and bytes lent are enough for every netlist and every such trace

@@ -28,11 +28,11 @@ use Rattle.builder.specs.declared.Cause.the-variants.{TooManyVariables}
 use Rattle.builder.specs.declared.Built.the-variants.{Gates}
 use Rattle.simulator.specs.declared.outcome.Verdict.{Verdict}
 use Rattle.simulator.specs.declared.outcome.Verdict.the-variants.{Accepted, Rejected}
-use Rattle.simulator.specs.declared.refusal.Cause.the-variants.{WrongLine}
-use Rattle.simulator.specs.Refusals as simulator
-use Rattle.simulator.specs.Traces.{fitsLine, faultFrom, faultOf, lineCount, cyclesOf}
+use Rattle.calls.specs.declared.refusal.Cause.the-variants.{WrongLine}
+use Rattle.calls.specs.Refusals as simulator
+use Rattle.trace.specs.Traces.{fitsLine, faultFrom, faultOf, lineCount, cyclesOf}
 use Rattle.simulator.specs.Run.{verdictOf}
-use Rattle.simulator.proofs.TraceLaws.{lines-fit, length-cycles}
+use Rattle.trace.proofs.TraceLaws.{lines-fit, length-cycles}
 use Rattle.demand.proofs.Held.{verdicts-length}
 use Rattle.aiger.specs.Format.{fileOf}
 use Rattle.aiger.proofs.LengthLaws.{joined-length, file-length}

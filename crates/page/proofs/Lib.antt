@@ -5,5 +5,4 @@ mod JudgedLaws
 mod SizeLaws
 mod LengthLaws
 mod AnswerLaws
-mod Letters
 mod Examples

@@ -1,4 +1,3 @@
--- The root of the definitions that the contracts of page cite, in reading order. Machine only serves the private
--- functions.
+-- The root of the definitions that the contracts of page cite, in reading order.
 pub mod Pages
-pub mod Machine
+pub mod Private

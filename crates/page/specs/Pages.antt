@@ -14,10 +14,10 @@ use Rattle.builder.specs.Build as build
 use Rattle.builder.specs.Build.{variablesOf}
 use Rattle.builder.specs.declared.Cause.the-variants.{GraphText, TooManyVariables}
 use Rattle.aiger.specs.Format.{fileOf}
-use Rattle.simulator.specs.Traces.{faultOf, cyclesOf}
+use Rattle.trace.specs.Traces.{faultOf, cyclesOf}
 use Rattle.simulator.specs.Run.{verdictOf}
-use Rattle.simulator.specs.Refusals as simulator
-use Rattle.simulator.specs.declared.refusal.Cause.the-variants.{WrongLine}
+use Rattle.calls.specs.Refusals as simulator
+use Rattle.calls.specs.declared.refusal.Cause.the-variants.{WrongLine}
 use Rattle.page_text.specs.Parts.{graphPart, tracePart}
 use Rattle.page_text.specs.Lines.{refusedLine, report}
 use Rattle.page.specs.declared.Cause.{Cause}

@@ -4,12 +4,12 @@
 // the cycles that some setting and some rejecting path condemn.
 use aiger::Written;
 use builder::Built;
+use calls::Tally;
 use page_text::graph_length;
 use page_text::put_refusal;
 use page_text::put_report;
 use simulator::Ran;
 use simulator::RunOutcome;
-use simulator::Tally;
 use simulator::Verdict;
 use text::Refusal;
 ghost use mathlib.Core.Path.{_≡_};
@@ -21,7 +21,7 @@ ghost use Rattle.graph.specs.Reading.{graphOf};
 ghost use Rattle.aiger.specs.Format.{fileOf};
 ghost use Rattle.page_text.specs.Lines.{refusedLine, report};
 ghost use Rattle.page.specs.Pages.{refusalOf, graphPage, tracePage, pageEnd, pageOf, monitorText, aigerText};
-ghost use Rattle.page.specs.Machine.{outcomePage, machinePage};
+ghost use Rattle.page.specs.Private.Machine.{outcomePage, machinePage};
 
 // The longest input of a program.
 const MAX_INPUT: usize = 65536;

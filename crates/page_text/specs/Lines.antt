@@ -4,6 +4,7 @@ use mathlib.Core.List.{List, [], _∷_, _++_}
 use Prim.Native.Nat.{ℕ, _+_}
 use lib.Dec.{eqb}
 use lib.ListN.{length, getD}
+use Rattle.text.specs.Quoted.{byte, bytes}
 use Rattle.text.specs.declared.Refusal.{Refusal}
 use Rattle.text.specs.Numbers.{digits}
 use Rattle.text.specs.Writer.{joined}
@@ -12,29 +13,29 @@ use Rattle.simulator.specs.declared.outcome.Verdict.the-variants.{Accepted, Rej
 
 -- a tab and a number
 unfoldable pub field : ℕ → List ℕ
-field n = 9 ∷ digits n
+field n = byte "\t" ∷ digits n
 
 -- `refused`, number, line
 unfoldable pub refusedLine : Refusal → List ℕ
-refusedLine r = (114 ∷ 101 ∷ 102 ∷ 117 ∷ 115 ∷ 101 ∷ 100 ∷ []) ++ (field (r .number) ++ (field (r .line) ++ (10 ∷ [])))
+refusedLine r = bytes "refused" ++ (field (r .number) ++ (field (r .line) ++ bytes "\n"))
 
 -- `R`, cycle
 unfoldable pub rejectedLine : ℕ → List ℕ
-rejectedLine cycle = (82 ∷ []) ++ (field cycle ++ (10 ∷ []))
+rejectedLine cycle = bytes "R" ++ (field cycle ++ bytes "\n")
 
 -- a tab and the word of a verdict, with the line's LF: `accepted`, `rejected`
 unfoldable pub verdictField : Verdict → List ℕ
-verdictField Accepted = 9 ∷ 97 ∷ 99 ∷ 99 ∷ 101 ∷ 112 ∷ 116 ∷ 101 ∷ 100 ∷ 10 ∷ []
-verdictField Rejected = 9 ∷ 114 ∷ 101 ∷ 106 ∷ 101 ∷ 99 ∷ 116 ∷ 101 ∷ 100 ∷ 10 ∷ []
+verdictField Accepted = bytes "\taccepted\n"
+verdictField Rejected = bytes "\trejected\n"
 
 -- `sum`, cycles, rejected, verdict
 unfoldable pub sumLine : ℕ → ℕ → Verdict → List ℕ
-sumLine cycles rejected verdict = (115 ∷ 117 ∷ 109 ∷ []) ++ (field cycles ++ (field rejected ++ verdictField verdict))
+sumLine cycles rejected verdict = bytes "sum" ++ (field cycles ++ (field rejected ++ verdictField verdict))
 
 -- the line of cycle k, from 0, where its verdict byte is 1; cycles are printed from 1
 unfoldable pub cycleLine : List ℕ → ℕ → List ℕ
-cycleLine bytes k = cond (eqb (getD bytes k 0) 1) (rejectedLine (k + 1)) []
+cycleLine verdicts k = cond (eqb (getD verdicts k 0) 1) (rejectedLine (k + 1)) []
 
 -- a line for each rejected cycle, by the verdict bytes, then the sum
 unfoldable pub report : List ℕ → ℕ → ℕ → Verdict → List ℕ
-report bytes cycles rejected verdict = joined (cycleLine bytes) (length bytes) ++ sumLine cycles rejected verdict
+report verdicts cycles rejected verdict = joined (cycleLine verdicts) (length verdicts) ++ sumLine cycles rejected verdict

@@ -3,6 +3,7 @@ use mathlib.Core.Bool.{Bool, true, cond, _&&_}
 use mathlib.Core.List.{List, [], _∷_}
 use Prim.Native.Nat.{ℕ, suc, _+_}
 use lib.Dec.{eqb}
+use Rattle.text.specs.Quoted.{byte}
 use lib.ListN.{getD, take, drop}
 
 -- how many bytes stand before the first line that is just `T` and its LF, or all where there is none; `starts`
@@ -10,7 +11,7 @@ use lib.ListN.{getD, take, drop}
 unfoldable pub bytesBefore : Bool → List ℕ → ℕ
 bytesBefore starts [] = 0
 bytesBefore starts (b ∷ s) =
-    cond (starts && (eqb b 84 && eqb (getD s 0 0) 10)) 0 (suc (bytesBefore (eqb b 10) s))
+    cond (starts && (eqb b (byte "T") && eqb (getD s 0 0) (byte "\n"))) 0 (suc (bytesBefore (eqb b (byte "\n")) s))
 
 abbrev pub graphLength : List ℕ → ℕ
 graphLength input = bytesBefore true input

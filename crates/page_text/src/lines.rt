@@ -1,5 +1,5 @@
 // The lines of a page, appended to a buffer as the writers of `text` do.
-use simulator::Tally;
+use calls::Tally;
 use simulator::Verdict;
 use text::Refusal;
 ghost use Prim.Native.Nat.{_<_, _+_};

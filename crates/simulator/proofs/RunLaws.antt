@@ -8,20 +8,20 @@ use native.Mathlib.Omega.{arith}
 use lib.ListN.{length, set, take, drop, length-append, length-drop}
 use lib.Seq.{drop-drop, length-take-le, take-at}
 use Rattle.netlist.specs.Layout.{inputCount}
-use Rattle.simulator.specs.declared.refusal.Cause.{Cause}
-use Rattle.simulator.specs.declared.refusal.Checked.{Checked}
-use Rattle.simulator.specs.declared.refusal.Checked.the-variants.{Passed, Failed}
+use Rattle.calls.specs.declared.refusal.Cause.{Cause}
+use Rattle.calls.specs.declared.refusal.Checked.{Checked}
+use Rattle.calls.specs.declared.refusal.Checked.the-variants.{Passed, Failed}
 use Rattle.simulator.specs.declared.outcome.Verdict.{Verdict}
 use Rattle.simulator.specs.declared.outcome.RunOutcome.the-variants.{Done, Refused}
-use Rattle.simulator.specs.declared.tally.Tally.{Tally}
-use Rattle.simulator.specs.Tallies.{counted, hasRoom}
-use Rattle.simulator.specs.Traces.{lineCount, cyclesFrom, cyclesOf}
-use Rattle.simulator.specs.Refusals.{runCheck}
+use Rattle.calls.specs.declared.tally.Tally.{Tally}
+use Rattle.calls.specs.Tallies.{counted, hasRoom}
+use Rattle.trace.specs.Traces.{lineCount, cyclesFrom, cyclesOf}
+use Rattle.calls.specs.Refusals.{runCheck}
 use Rattle.simulator.specs.Step.{outputWord, latchesAfter, valuesAfter}
 use Rattle.simulator.specs.Run.{verdictByte, verdictOf, Running, running, runCycle, runCycles, runEnd, ranTo, runAs, runOf}
-use Rattle.simulator.proofs.TallyLaws.{room-one, room-next}
-use Rattle.simulator.proofs.TraceLaws.{lines-fit}
-use Rattle.simulator.proofs.RefusalLaws.{RunReady, run-passed}
+use Rattle.calls.proofs.TallyLaws.{room-one, room-next}
+use Rattle.trace.proofs.TraceLaws.{lines-fit}
+use Rattle.calls.proofs.RefusalLaws.{RunReady, run-passed}
 use Rattle.simulator.proofs.CycleLaws.{grow}
 
 -- ---- what a run answers and leaves

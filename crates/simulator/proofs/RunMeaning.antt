@@ -11,12 +11,12 @@ use Rattle.netlist.specs.Layout.{inputCount, latchCount}
 use Rattle.netlist.specs.Lanes.{lane, each}
 use Rattle.netlist.specs.Meaning.{Ops, bools, words, bitOf, valuesOf, nextOf, outputOf}
 use Rattle.netlist.proofs.MeaningLaws.{length-nexts, Hom, lane-hom, bits-hom, values-hom, next-hom, output-hom}
-use Rattle.simulator.specs.declared.refusal.Checked.the-variants.{Passed}
+use Rattle.calls.specs.declared.refusal.Checked.the-variants.{Passed}
 use Rattle.simulator.specs.declared.outcome.RunOutcome.the-variants.{Done}
-use Rattle.simulator.specs.declared.tally.Tally.{Tally}
-use Rattle.simulator.specs.Refusals.{runCheck}
-use Rattle.simulator.specs.Traces.{cyclesOf}
-use Rattle.simulator.specs.Tallies.{isRejected, counted}
+use Rattle.calls.specs.declared.tally.Tally.{Tally}
+use Rattle.calls.specs.Refusals.{runCheck}
+use Rattle.trace.specs.Traces.{cyclesOf}
+use Rattle.calls.specs.Tallies.{isRejected, counted}
 use Rattle.simulator.specs.Step.{cycleWords, outputWord, latchesAfter}
 use Rattle.simulator.specs.Run.{verdictByte, verdictOf, Running, running, runCycle, runCycles, RunEnd, ranTo, runOf}
 use Rattle.simulator.proofs.RunLaws.{run-is}

@@ -7,17 +7,17 @@ use lib.ListN.{length}
 use Rattle.netlist.specs.Layout.{maximum, inputCount, latchCount}
 use Rattle.netlist.specs.Valid.{isNetlist}
 use Rattle.netlist.proofs.ValidLaws.{valid}
-use Rattle.simulator.specs.declared.refusal.Checked.the-variants.{Passed}
-use Rattle.simulator.specs.declared.tally.Tally.{Tally}
-use Rattle.simulator.specs.Tallies.{hasRoom}
-use Rattle.simulator.specs.Traces.{isCycle, cyclesOf}
-use Rattle.simulator.specs.Refusals.{stepCheck}
+use Rattle.calls.specs.declared.refusal.Checked.the-variants.{Passed}
+use Rattle.calls.specs.declared.tally.Tally.{Tally}
+use Rattle.calls.specs.Tallies.{hasRoom}
+use Rattle.trace.specs.Traces.{isCycle, cyclesOf}
+use Rattle.calls.specs.Refusals.{stepCheck}
 use Rattle.simulator.specs.Step.{StepEnd, outputWord, stepOf}
 use Rattle.simulator.specs.Run.{Running, running, runCycle, runCycles, ranTo}
 use Rattle.simulator.specs.Claims.{afterOutcome, afterStep, steps, RunIsSteps}
-use Rattle.simulator.proofs.TallyLaws.{room-one, room-next}
-use Rattle.simulator.proofs.TraceLaws.{Cycles, cycle-length, lines-are-cycles, length-cycles}
-use Rattle.simulator.proofs.RefusalLaws.{step-passes, run-passed}
+use Rattle.calls.proofs.TallyLaws.{room-one, room-next}
+use Rattle.trace.proofs.TraceLaws.{Cycles, cycle-length, lines-are-cycles, length-cycles}
+use Rattle.calls.proofs.RefusalLaws.{step-passes, run-passed}
 use Rattle.simulator.proofs.CycleLaws.{latches-length, values-length}
 use Rattle.simulator.proofs.StepLaws.{step-is}
 use Rattle.simulator.proofs.RunLaws.{run-is}

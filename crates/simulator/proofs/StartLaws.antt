@@ -17,13 +17,13 @@ use Rattle.netlist.specs.Valid.{isFree, freeCount}
 use Rattle.netlist.proofs.EachLaws.{each-at}
 use Rattle.netlist.proofs.LaneLaws.{lane-word, word-same}
 use Rattle.netlist.proofs.ValidLaws.{free-more}
-use Rattle.simulator.specs.declared.refusal.Cause.{Cause}
-use Rattle.simulator.specs.declared.refusal.Checked.{Checked}
-use Rattle.simulator.specs.declared.refusal.Checked.the-variants.{Passed, Failed}
+use Rattle.calls.specs.declared.refusal.Cause.{Cause}
+use Rattle.calls.specs.declared.refusal.Checked.{Checked}
+use Rattle.calls.specs.declared.refusal.Checked.the-variants.{Passed, Failed}
 use Rattle.simulator.specs.declared.outcome.StartOutcome.the-variants.{Ready, Refused}
-use Rattle.simulator.specs.declared.tally.Tally.{Tally}
-use Rattle.simulator.specs.Tallies.{cleared}
-use Rattle.simulator.specs.Refusals.{startCheck}
+use Rattle.calls.specs.declared.tally.Tally.{Tally}
+use Rattle.calls.specs.Tallies.{cleared}
+use Rattle.calls.specs.Refusals.{startCheck}
 use Rattle.simulator.specs.Start.{startBit, startWords, startEnd, startAs, startOf}
 use Rattle.simulator.specs.Claims.{StartMeans}
 use Rattle.simulator.proofs.CycleLaws.{grow}

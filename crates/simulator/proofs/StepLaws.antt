@@ -11,17 +11,17 @@ use Rattle.netlist.specs.Meaning.{bools, words, bitOf, litOf, valuesOf, nextsOf
 use Rattle.netlist.proofs.ValidLaws.{valid}
 use Rattle.netlist.proofs.MeaningLaws.{length-nexts, nexts-at, lane-hom, lit-hom, lane-inputs}
 use Rattle.netlist.proofs.AigerLaws.{means}
-use Rattle.simulator.specs.declared.refusal.Cause.{Cause}
-use Rattle.simulator.specs.declared.refusal.Checked.{Checked}
-use Rattle.simulator.specs.declared.refusal.Checked.the-variants.{Passed, Failed}
+use Rattle.calls.specs.declared.refusal.Cause.{Cause}
+use Rattle.calls.specs.declared.refusal.Checked.{Checked}
+use Rattle.calls.specs.declared.refusal.Checked.the-variants.{Passed, Failed}
 use Rattle.simulator.specs.declared.outcome.StepOutcome.the-variants.{Output, Refused}
-use Rattle.simulator.specs.declared.tally.Tally.{Tally}
-use Rattle.simulator.specs.Tallies.{counted}
-use Rattle.simulator.specs.Refusals.{stepCheck}
+use Rattle.calls.specs.declared.tally.Tally.{Tally}
+use Rattle.calls.specs.Tallies.{counted}
+use Rattle.calls.specs.Refusals.{stepCheck}
 use Rattle.simulator.specs.Step.{cycleWords, outputWord, latchesAfter, valuesAfter, StepEnd, stepEnd, stepAs, stepOf}
 use Rattle.simulator.specs.Claims.{LaneOfStep, StepMeans}
-use Rattle.simulator.proofs.TraceLaws.{cycle-length}
-use Rattle.simulator.proofs.RefusalLaws.{StepReady, step-passed}
+use Rattle.trace.proofs.TraceLaws.{cycle-length}
+use Rattle.calls.proofs.RefusalLaws.{StepReady, step-passed}
 use Rattle.simulator.proofs.CycleLaws.{length-words}
 
 module _ (net cycle latches values : List ℕ) (t : Tally) where

@@ -8,14 +8,14 @@ use Rattle.netlist.specs.Layout.{maximum, inputCount, latchCount, nextAt, outpu
 use Rattle.netlist.specs.Lanes.{lane}
 use Rattle.netlist.specs.Meaning.{bools, bitOf, litOf}
 use Rattle.netlist.specs.Aiger.{Satisfies}
-use Rattle.simulator.specs.declared.refusal.Checked.{Checked}
-use Rattle.simulator.specs.declared.refusal.Checked.the-variants.{Passed, Failed}
+use Rattle.calls.specs.declared.refusal.Checked.{Checked}
+use Rattle.calls.specs.declared.refusal.Checked.the-variants.{Passed, Failed}
 use Rattle.simulator.specs.declared.outcome.StepOutcome.{StepOutcome}
 use Rattle.simulator.specs.declared.outcome.StepOutcome.the-variants.{Output, Refused}
-use Rattle.simulator.specs.declared.tally.Tally.{Tally}
-use Rattle.simulator.specs.Tallies.{isRejected}
-use Rattle.simulator.specs.Traces.{cyclesOf}
-use Rattle.simulator.specs.Refusals.{startCheck, stepCheck, runCheck}
+use Rattle.calls.specs.declared.tally.Tally.{Tally}
+use Rattle.calls.specs.Tallies.{isRejected}
+use Rattle.trace.specs.Traces.{cyclesOf}
+use Rattle.calls.specs.Refusals.{startCheck, stepCheck, runCheck}
 use Rattle.simulator.specs.Start.{startBit, startOf}
 use Rattle.simulator.specs.Step.{StepEnd, outputWord, stepOf}
 use Rattle.simulator.specs.Run.{Running, running, verdictByte, ranTo, runOf}
@@ -43,17 +43,6 @@ abbrev pub StepMeans : List ℕ → List ℕ → List ℕ → List ℕ → Tally
 StepMeans net cycle latches values t =
     stepCheck net cycle (length latches) (length values) t ≡ Passed → (n : ℕ) → n < 64
     → LaneOfStep n net cycle latches (stepOf net cycle latches values t)
-
--- a lane of w that is 0
-pub record LowLane (w : ℕ) : Type 0 where
-  pub number : ℕ
-  pub below : number < 64
-  pub low : lane number w ≡ false
-
--- a cycle is rejected exactly if some lane of its output word is 0
-pub record RejectedByLane (w : ℕ) : Type 0 where
-  pub some : isRejected w ≡ true → LowLane w
-  pub only : LowLane w → isRejected w ≡ true
 
 -- ---- run: a run that is not refused is its steps, one after another
 -- what a run holds after a step; a refused step changes nothing

@@ -1,7 +1,4 @@
 -- The root of the definitions that the contracts of simulator cite, in reading order.
-pub mod Tallies
-pub mod Traces
-pub mod Refusals
 pub mod Start
 pub mod Step
 pub mod Run

@@ -6,17 +6,17 @@ use Prim.Native.Nat.{ℕ, _-_}
 use lib.Dec.{eqb}
 use lib.ListN.{length, getD, drop}
 use Rattle.netlist.specs.Layout.{inputCount}
-use Rattle.simulator.specs.declared.refusal.Checked.{Checked}
-use Rattle.simulator.specs.declared.refusal.Checked.the-variants.{Passed, Failed}
+use Rattle.calls.specs.declared.refusal.Checked.{Checked}
+use Rattle.calls.specs.declared.refusal.Checked.the-variants.{Passed, Failed}
 use Rattle.simulator.specs.declared.outcome.Verdict.{Verdict}
 use Rattle.simulator.specs.declared.outcome.Verdict.the-variants.{Accepted, Rejected}
 use Rattle.simulator.specs.declared.outcome.RunOutcome.{RunOutcome}
 use Rattle.simulator.specs.declared.outcome.RunOutcome.the-variants.{Done, Refused}
 use Rattle.simulator.specs.declared.outcome.Ran.{Ran}
-use Rattle.simulator.specs.declared.tally.Tally.{Tally}
-use Rattle.simulator.specs.Tallies.{isRejected, counted}
-use Rattle.simulator.specs.Traces.{cyclesOf}
-use Rattle.simulator.specs.Refusals.{runCheck}
+use Rattle.calls.specs.declared.tally.Tally.{Tally}
+use Rattle.calls.specs.Tallies.{isRejected, counted}
+use Rattle.trace.specs.Traces.{cyclesOf}
+use Rattle.calls.specs.Refusals.{runCheck}
 use Rattle.simulator.specs.Step.{outputWord, latchesAfter, valuesAfter}
 
 -- the byte of a cycle whose output word is w: 1 rejected, 0 accepted

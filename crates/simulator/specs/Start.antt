@@ -7,14 +7,14 @@ use lib.ListN.{length, getD, drop}
 use Rattle.netlist.specs.Layout.{latchCount, resetAt}
 use Rattle.netlist.specs.Lanes.{lane, wordOf}
 use Rattle.netlist.specs.Valid.{isFree, freeCount}
-use Rattle.simulator.specs.declared.refusal.Checked.{Checked}
-use Rattle.simulator.specs.declared.refusal.Checked.the-variants.{Passed, Failed}
+use Rattle.calls.specs.declared.refusal.Checked.{Checked}
+use Rattle.calls.specs.declared.refusal.Checked.the-variants.{Passed, Failed}
 use Rattle.simulator.specs.declared.outcome.StartOutcome.{StartOutcome}
 use Rattle.simulator.specs.declared.outcome.StartOutcome.the-variants.{Ready, Refused}
 use Rattle.simulator.specs.declared.outcome.Started.{Started}
-use Rattle.simulator.specs.declared.tally.Tally.{Tally}
-use Rattle.simulator.specs.Tallies.{cleared}
-use Rattle.simulator.specs.Refusals.{startCheck}
+use Rattle.calls.specs.declared.tally.Tally.{Tally}
+use Rattle.calls.specs.Tallies.{cleared}
+use Rattle.calls.specs.Refusals.{startCheck}
 
 -- the bit with which latch k starts in lane n: its reset where that is 0 or 1; bit j of n where it is
 -- the j-th uninitialised latch, j from 0

@@ -5,14 +5,14 @@ use Prim.Native.Nat.{ℕ, _+_}
 use lib.ListN.{length, take, drop}
 use Rattle.netlist.specs.Layout.{maximum, latchCount}
 use Rattle.netlist.specs.Meaning.{words, bitOf, valuesOf, nextOf, outputOf}
-use Rattle.simulator.specs.declared.refusal.Checked.{Checked}
-use Rattle.simulator.specs.declared.refusal.Checked.the-variants.{Passed, Failed}
+use Rattle.calls.specs.declared.refusal.Checked.{Checked}
+use Rattle.calls.specs.declared.refusal.Checked.the-variants.{Passed, Failed}
 use Rattle.simulator.specs.declared.outcome.StepOutcome.{StepOutcome}
 use Rattle.simulator.specs.declared.outcome.StepOutcome.the-variants.{Output, Refused}
 use Rattle.simulator.specs.declared.outcome.Stepped.{Stepped}
-use Rattle.simulator.specs.declared.tally.Tally.{Tally}
-use Rattle.simulator.specs.Tallies.{counted}
-use Rattle.simulator.specs.Refusals.{stepCheck}
+use Rattle.calls.specs.declared.tally.Tally.{Tally}
+use Rattle.calls.specs.Tallies.{counted}
+use Rattle.calls.specs.Refusals.{stepCheck}
 
 -- the words of all variables in a cycle: each input's byte is spread over all lanes
 unfoldable pub cycleWords : List ℕ → List ℕ → List ℕ → List ℕ

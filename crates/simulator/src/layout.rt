@@ -6,9 +6,7 @@ ghost use lib.ListN.{getD};
 ghost use Rattle.netlist.specs.Layout.{outputAt, operandsAt};
 ghost use Rattle.netlist.specs.Valid.{isNetlist};
 
-// The places of M, I, L, O and A.
-pub(crate) const MAXIMUM: usize = 0;
-
+// The places of I, L, O and A.
 pub(crate) const INPUTS: usize = 1;
 
 pub(crate) const LATCHES: usize = 2;

@@ -7,28 +7,27 @@ ghost use Prim.Native.Nat.{ℕ};
 ghost use Rattle.simulator.specs.Start.{startEnd, startOf};
 ghost use Rattle.simulator.specs.Step.{stepEnd, stepOf};
 ghost use Rattle.simulator.specs.Run.{runEnd, runOf};
-ghost use Rattle.simulator.specs.Claims.{StartMeans, StepMeans, RejectedByLane, RunIsSteps};
+ghost use Rattle.simulator.specs.Claims.{StartMeans, StepMeans, RunIsSteps};
+ghost use Rattle.calls.specs.Tallies.{RejectedByLane};
 
 mod cycle;
 mod latches;
 mod layout;
 mod outcome;
-mod reader;
-mod refusal;
 mod running;
 mod tally;
-mod trace;
 
 use crate::cycle::advance;
 use crate::latches::starts;
 use crate::layout::LATCHES;
 use crate::layout::header;
-use crate::refusal::Checked;
-use crate::refusal::run_check;
-use crate::refusal::start_check;
-use crate::refusal::step_check;
 use crate::running::run_cycles;
 use crate::tally::tallied;
+use calls::Checked;
+use calls::Tally;
+use calls::run_check;
+use calls::start_check;
+use calls::step_check;
 pub use outcome::Ran;
 pub use outcome::RunOutcome;
 pub use outcome::StartOutcome;
@@ -36,8 +35,6 @@ pub use outcome::Started;
 pub use outcome::StepOutcome;
 pub use outcome::Stepped;
 pub use outcome::Verdict;
-pub use refusal::Cause;
-pub use tally::Tally;
 
 // Starts a run: fills the latch words and clears the tally.
 pub fn start(net: &[u16], latches: &mut [u64], tally: Tally) -> Started

@@ -1,6 +1,6 @@
 // What start, step and run answer: an outcome, and the tally, which a refusal hands back as it was.
-use crate::refusal::Cause;
-use crate::tally::Tally;
+use calls::Cause;
+use calls::Tally;
 
 pub enum StartOutcome {
     Ready,

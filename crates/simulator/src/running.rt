@@ -2,8 +2,8 @@
 ghost use mathlib.Core.Path.{_≡_};
 ghost use Prim.Native.Nat.{_≤_};
 ghost use lib.ListN.{length, take};
-ghost use Rattle.simulator.specs.declared.refusal.Checked.the-variants.{Passed};
-ghost use Rattle.simulator.specs.Refusals.{runCheck};
+ghost use Rattle.calls.specs.declared.refusal.Checked.the-variants.{Passed};
+ghost use Rattle.calls.specs.Refusals.{runCheck};
 ghost use Rattle.simulator.specs.Run.{verdictByte, verdictOf, runEnd, runOf};
 use crate::cycle::advance;
 use crate::layout::INPUTS;
@@ -11,11 +11,11 @@ use crate::layout::header;
 use crate::outcome::Ran;
 use crate::outcome::RunOutcome;
 use crate::outcome::Verdict;
-use crate::reader::next_cycle;
-use crate::reader::next_place;
-use crate::tally::Tally;
-use crate::tally::is_rejected;
 use crate::tally::tallied;
+use calls::Tally;
+use calls::is_rejected;
+use trace::next_cycle;
+use trace::next_place;
 
 // The byte of a cycle with this output word: 1 rejected, 0 accepted.
 fn verdict_byte(word: u64) -> u8

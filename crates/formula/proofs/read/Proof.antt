@@ -2,7 +2,7 @@
 use mathlib.Core.Path.{refl, sym, subst, _∙_}
 use native.Mathlib.Omega.{arith}
 use lib.ListN.{length}
-use Rattle.formula.specs.Readers.{Bounds}
+use Rattle.formula.specs.Private.Readers.{Bounds}
 use Rattle.formula.proofs.Answers as answers
 use borrow.Author.Needs.{needs}
 use Rattle.formula.proofs.read.Statement.{statement}

@@ -1,7 +1,7 @@
 -- `graph::add_line` meets its contract: the record of the line, by its shape. Assumes nothing.
 use mathlib.Core.Path.{ap, subst, _∙_}
 use native.Mathlib.Omega.{arith}
-use Rattle.graph.specs.Steps.{Placed, addedOf}
+use Rattle.graph.specs.Private.Steps.{Placed, addedOf}
 use Rattle.graph.proofs.LineLaws.{part-length, name-at, line-wrong, line-signal, line-constant, line-vertex, line-edge, edge-at}
 use borrow.Author.Needs.{needs}
 use Rattle.graph.proofs.add_line.Statement.{statement}

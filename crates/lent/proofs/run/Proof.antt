@@ -41,10 +41,10 @@ use denote.Exit.{yes}
 use denote.Signature.{plain}
 use Rattle.simulator.specs.Run.{runEnd, runOf}
 use Rattle.simulator.specs.Claims.{RunIsSteps}
-use Rattle.simulator.specs.declared.tally.Tally.{Tally}
+use Rattle.calls.specs.declared.tally.Tally.{Tally}
 use Rattle.simulator.specs.declared.outcome.Ran.{Ran}
-use Rattle.simulator.proofs.tally.Tally as T
-use Rattle.simulator.proofs.tally.Tally.Laws as T′
+use Rattle.calls.proofs.tally.Tally as T
+use Rattle.calls.proofs.tally.Tally.Laws as T′
 use Rattle.simulator.proofs.outcome.Ran as S
 use Rattle.simulator.proofs.outcome.Ran.Laws as S′
 use Rattle.simulator.proofs.outcome.RunOutcome as O

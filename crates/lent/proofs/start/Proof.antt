@@ -41,10 +41,10 @@ use denote.Exit.{yes}
 use denote.Signature.{plain}
 use Rattle.simulator.specs.Start.{startEnd, startOf}
 use Rattle.simulator.specs.Claims.{StartMeans}
-use Rattle.simulator.specs.declared.tally.Tally.{Tally}
+use Rattle.calls.specs.declared.tally.Tally.{Tally}
 use Rattle.simulator.specs.declared.outcome.Started.{Started}
-use Rattle.simulator.proofs.tally.Tally as T
-use Rattle.simulator.proofs.tally.Tally.Laws as T′
+use Rattle.calls.proofs.tally.Tally as T
+use Rattle.calls.proofs.tally.Tally.Laws as T′
 use Rattle.simulator.proofs.outcome.Started as S
 use Rattle.simulator.proofs.outcome.Started.Laws as S′
 use Rattle.simulator.proofs.outcome.StartOutcome as O

@@ -40,11 +40,12 @@ use denote.Triple.Walked.{says, Stays, stay-ref, stay-none-slice, gave-slice, wa
 use denote.Exit.{yes}
 use denote.Signature.{plain}
 use Rattle.simulator.specs.Step.{stepEnd, stepOf}
-use Rattle.simulator.specs.Claims.{StepMeans, RejectedByLane}
-use Rattle.simulator.specs.declared.tally.Tally.{Tally}
+use Rattle.calls.specs.Tallies.{RejectedByLane}
+use Rattle.simulator.specs.Claims.{StepMeans}
+use Rattle.calls.specs.declared.tally.Tally.{Tally}
 use Rattle.simulator.specs.declared.outcome.Stepped.{Stepped}
-use Rattle.simulator.proofs.tally.Tally as T
-use Rattle.simulator.proofs.tally.Tally.Laws as T′
+use Rattle.calls.proofs.tally.Tally as T
+use Rattle.calls.proofs.tally.Tally.Laws as T′
 use Rattle.simulator.proofs.outcome.Stepped as S
 use Rattle.simulator.proofs.outcome.Stepped.Laws as S′
 use Rattle.simulator.proofs.outcome.StepOutcome as O

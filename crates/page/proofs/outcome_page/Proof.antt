@@ -6,7 +6,7 @@ use native.Mathlib.Omega.{arith}
 use borrow.Author.Needs.{needs}
 use lib.ListN.{length}
 use lib.Seq.{length-take-le}
-use Rattle.page.specs.Machine.{outcomePage}
+use Rattle.page.specs.Private.Machine.{outcomePage}
 use Rattle.page.proofs.PageLaws.{shown}
 use Rattle.page.proofs.outcome_page.Statement.{statement}
 use Rattle.page.proofs.outcome_page.Tie as tie

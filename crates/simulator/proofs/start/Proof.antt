@@ -2,7 +2,7 @@
 use native.Mathlib.Omega.{arith}
 use borrow.Author.Needs.{needs}
 use Rattle.netlist.proofs.ValidLaws.{valid}
-use Rattle.simulator.proofs.RefusalLaws.{start-passed}
+use Rattle.calls.proofs.RefusalLaws.{start-passed}
 use Rattle.simulator.proofs.StartLaws.{start-refused, start-ready, start-means}
 use Rattle.simulator.proofs.start.Statement.{statement}
 use Rattle.simulator.proofs.start.Tie as tie

@@ -1,8 +1,8 @@
 -- `simulator::step` meets its contract. Assumes nothing.
 use borrow.Author.Needs.{needs}
-use Rattle.simulator.proofs.TallyLaws.{rejected-by-lane}
-use Rattle.simulator.proofs.TraceLaws.{cycle-length}
-use Rattle.simulator.proofs.RefusalLaws.{step-passed}
+use Rattle.calls.proofs.TallyLaws.{rejected-by-lane}
+use Rattle.trace.proofs.TraceLaws.{cycle-length}
+use Rattle.calls.proofs.RefusalLaws.{step-passed}
 use Rattle.simulator.proofs.StepLaws.{step-refused, step-done, step-means}
 use Rattle.simulator.proofs.step.Statement.{statement}
 use Rattle.simulator.proofs.step.Tie as tie

@@ -6,7 +6,7 @@ use native.Mathlib.Omega.{arith}
 use borrow.Author.Needs.{needs}
 use Rattle.netlist.specs.Literals.{literalOf}
 use Rattle.netlist.proofs.LiteralLaws.{made}
-use Rattle.aiger_read.specs.Steps.{kindAt, blockOf, Within}
+use Rattle.aiger_read.specs.Private.Steps.{kindAt, blockOf, Within}
 use Rattle.aiger_read.proofs.PassLaws.{Going, going-start, going-next, going-fault, going-done, row-good, row-bad}
 use Rattle.aiger_read.proofs.files.block_at.Statement.{statement}
 use Rattle.aiger_read.proofs.files.block_at.Tie as tie

@@ -1,6 +1,6 @@
 -- `gate_line` meets its contract. Assumes nothing.
 use native.Mathlib.Omega.{arith}
-use Rattle.aiger_read.specs.Steps.{numbersOf, rowIn}
+use Rattle.aiger_read.specs.Private.Steps.{numbersOf, rowIn}
 use Rattle.aiger_read.proofs.RowLaws.{gate-wrong, gate-other, gate-above, gate-order, gate-good}
 use borrow.Author.Needs.{needs}
 use Rattle.aiger_read.proofs.lines.gate_line.Statement.{statement}

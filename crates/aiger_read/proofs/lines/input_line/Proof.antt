@@ -1,5 +1,5 @@
 -- `input_line` meets its contract. Assumes nothing.
-use Rattle.aiger_read.specs.Steps.{numbersOf, rowIn}
+use Rattle.aiger_read.specs.Private.Steps.{numbersOf, rowIn}
 use Rattle.aiger_read.proofs.RowLaws.{input-wrong, input-bad, input-good}
 use borrow.Author.Needs.{needs}
 use Rattle.aiger_read.proofs.lines.input_line.Statement.{statement}

@@ -1,5 +1,5 @@
 -- `latch_line` meets its contract. Assumes nothing.
-use Rattle.aiger_read.specs.Steps.{rowIn}
+use Rattle.aiger_read.specs.Private.Steps.{rowIn}
 use Rattle.aiger_read.proofs.RowLaws.{latch-wrong, latch-other, latch-past, latch-next}
 use borrow.Author.Needs.{needs}
 use Rattle.aiger_read.proofs.lines.latch_line.Statement.{statement}

@@ -1,5 +1,5 @@
 -- `latch_reset` meets its contract. Assumes nothing.
-use Rattle.aiger_read.specs.Steps.{numbersOf, rowIn}
+use Rattle.aiger_read.specs.Private.Steps.{numbersOf, rowIn}
 use native.Mathlib.Omega.{arith}
 use Rattle.aiger_read.proofs.LimitLaws.{reset-plain, reset-other, reset-full, reset-own}
 use borrow.Author.Needs.{needs}

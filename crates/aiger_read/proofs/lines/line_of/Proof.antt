@@ -1,5 +1,5 @@
 -- `line_of` meets its contract, kind by kind. Assumes nothing.
-use Rattle.aiger_read.specs.Steps.{kindAt}
+use Rattle.aiger_read.specs.Private.Steps.{kindAt}
 use borrow.Author.Needs.{needs}
 use Rattle.aiger_read.proofs.lines.line_of.Statement.{statement}
 use Rattle.aiger_read.proofs.lines.line_of.Tie as tie

@@ -1,5 +1,5 @@
 -- `output_line` meets its contract. Assumes nothing.
-use Rattle.aiger_read.specs.Steps.{numbersOf, rowIn}
+use Rattle.aiger_read.specs.Private.Steps.{numbersOf, rowIn}
 use Rattle.aiger_read.proofs.RowLaws.{output-wrong, output-bad, output-good}
 use borrow.Author.Needs.{needs}
 use Rattle.aiger_read.proofs.lines.output_line.Statement.{statement}

@@ -1,6 +1,6 @@
 -- `chained` meets its contract. Assumes nothing.
 use borrow.Author.Needs.{needs}
-use Rattle.builder.specs.Terms.{orOn}
+use Rattle.builder.specs.Private.Terms.{orOn}
 use Rattle.builder.proofs.chains.chained.Statement.{statement}
 use Rattle.builder.proofs.chains.chained.Tie as tie
 

@@ -2,7 +2,7 @@
 use mathlib.Core.Path.{ap, _∙_}
 use borrow.Author.Needs.{needs}
 use Rattle.circuit.specs.Gates.{inv}
-use Rattle.builder.specs.Terms.{acceptOf}
+use Rattle.builder.specs.Private.Terms.{acceptOf}
 use Rattle.builder.proofs.chains.put_accept.Statement.{statement}
 use Rattle.builder.proofs.chains.put_accept.Tie as tie
 

@@ -7,9 +7,9 @@ use native.Mathlib.Omega.{arith}
 use borrow.Author.Needs.{needs}
 use Rattle.circuit.specs.Gates.{lit}
 use Rattle.circuit.specs.Build.{init}
-use Rattle.builder.specs.Adding.{Going}
+use Rattle.builder.specs.Private.Adding.{Going}
 use Rattle.builder.proofs.AddingLaws.{done, going-room, go, going-kept, begin}
-use Rattle.builder.specs.Terms.{termsOf, orOn}
+use Rattle.builder.specs.Private.Terms.{termsOf, orOn}
 use Rattle.builder.proofs.TermLaws as laws
 use Rattle.builder.proofs.chains.put_or.Statement.{statement}
 use Rattle.builder.proofs.chains.put_or.Tie as tie

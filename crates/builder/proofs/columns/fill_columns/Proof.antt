@@ -6,7 +6,7 @@ use Prim.Native.Nat.{_-_, _≤_}
 use native.Mathlib.Omega.{arith}
 use native.Mathlib.Nat.{le-antisymm}
 use borrow.Author.Needs.{needs}
-use Rattle.builder.specs.Edges.{arcTargets, arcMarks, marks}
+use Rattle.builder.specs.Private.Edges.{arcTargets, arcMarks, marks}
 use Rattle.builder.proofs.TermLaws as laws
 use Rattle.builder.proofs.EdgeLaws as edge
 use Rattle.builder.proofs.columns.fill_columns.Statement.{statement}

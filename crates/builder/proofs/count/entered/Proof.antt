@@ -3,7 +3,7 @@ use mathlib.Core.Path.{_≡_}
 use Prim.Native.Nat.{_+_, _-_, _≤_}
 use native.Mathlib.Omega.{arith}
 use borrow.Author.Needs.{needs}
-use Rattle.builder.specs.Machine.{summed, isReached}
+use Rattle.builder.specs.Private.Machine.{summed, isReached}
 use Rattle.builder.proofs.CountLaws.{summed-step, summed-end}
 use Rattle.builder.proofs.count.entered.Statement.{statement}
 use Rattle.builder.proofs.count.entered.Tie as tie

@@ -3,7 +3,7 @@ use mathlib.Core.Path.{_≡_, refl}
 use Prim.Native.Nat.{_+_, _-_, _*_, _≤_}
 use native.Mathlib.Omega.{arith}
 use borrow.Author.Needs.{needs}
-use Rattle.builder.specs.Machine.{summed, arcGates}
+use Rattle.builder.specs.Private.Machine.{summed, arcGates}
 use Rattle.builder.proofs.CountLaws.{summed-whole, summed-end, gates-counted}
 use Rattle.builder.proofs.count.formulas_gates.Statement.{statement}
 use Rattle.builder.proofs.count.formulas_gates.Tie as tie

@@ -1,6 +1,6 @@
 -- `builder::count::gate_count` meets its contract. Assumes nothing.
 use borrow.Author.Needs.{needs}
-use Rattle.builder.specs.Machine.{gatesBy}
+use Rattle.builder.specs.Private.Machine.{gatesBy}
 use Rattle.builder.proofs.CountLaws.{counted}
 use Rattle.builder.proofs.count.gate_count.Statement.{statement}
 use Rattle.builder.proofs.count.gate_count.Tie as tie

@@ -6,7 +6,7 @@ use Prim.Native.Nat.{ℕ, _+_, _-_, _≤_}
 use native.Mathlib.Omega.{arith}
 use borrow.Author.Needs.{needs}
 use Rattle.builder.proofs.CountLaws.{mark-counted, summed-whole, summed-end}
-use Rattle.builder.specs.Machine.{summed, hasMark}
+use Rattle.builder.specs.Private.Machine.{summed, hasMark}
 use Rattle.builder.proofs.count.marks.Statement.{statement}
 use Rattle.builder.proofs.count.marks.Tie as tie
 

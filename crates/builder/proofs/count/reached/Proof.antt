@@ -4,7 +4,7 @@ use Prim.Native.Nat.{_-_, _≤_}
 use native.Mathlib.Omega.{arith}
 use borrow.Author.Needs.{needs}
 use Rattle.builder.proofs.CountLaws.{goes, goes-not, reached-some, reached-none, summed-whole, summed-end}
-use Rattle.builder.specs.Machine.{summed, goesTo}
+use Rattle.builder.specs.Private.Machine.{summed, goesTo}
 use Rattle.builder.proofs.count.reached.Statement.{statement}
 use Rattle.builder.proofs.count.reached.Tie as tie
 

@@ -3,7 +3,7 @@ use mathlib.Core.Path.{_≡_}
 use Prim.Native.Nat.{_+_, _-_, _*_, _≤_}
 use native.Mathlib.Omega.{arith}
 use borrow.Author.Needs.{needs}
-use Rattle.builder.specs.Machine.{summed, gatesAt}
+use Rattle.builder.specs.Private.Machine.{summed, gatesAt}
 use Rattle.builder.proofs.CountLaws.{summed-whole, summed-end, word-counted}
 use Rattle.builder.proofs.count.words_gates.Statement.{statement}
 use Rattle.builder.proofs.count.words_gates.Tie as tie

@@ -3,8 +3,8 @@ use mathlib.Core.Path.{refl, _∙_}
 use native.Mathlib.Omega.{arith}
 use borrow.Author.Needs.{needs}
 use Rattle.builder.proofs.AddingLaws.{room-first, whole-of, then, room-second}
-use Rattle.builder.specs.Terms.{tokensOf}
-use Rattle.builder.specs.Edges.{namesIn, edgeIn}
+use Rattle.builder.specs.Private.Terms.{tokensOf}
+use Rattle.builder.specs.Private.Edges.{namesIn, edgeIn}
 use Rattle.builder.proofs.EdgeLaws as edge
 use Rattle.builder.proofs.edges.put_edge.Statement.{statement}
 use Rattle.builder.proofs.edges.put_edge.Tie as tie

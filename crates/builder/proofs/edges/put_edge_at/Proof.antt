@@ -2,7 +2,7 @@
 use lib.ListN.{getD}
 use native.Mathlib.Omega.{arith}
 use borrow.Author.Needs.{needs}
-use Rattle.builder.specs.Edges.{namesIn}
+use Rattle.builder.specs.Private.Edges.{namesIn}
 use Rattle.graph.specs.Held.{noArc}
 use Rattle.builder.proofs.EdgeLaws as edge
 use Rattle.builder.proofs.edges.put_edge_at.Statement.{statement}

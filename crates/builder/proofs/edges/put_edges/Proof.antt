@@ -5,9 +5,9 @@ use lib.ListN.{length, take, drop, length-set}
 use Prim.Native.Nat.{_-_, _≤_, _<_}
 use native.Mathlib.Omega.{arith}
 use native.Mathlib.Nat.{le-antisymm}
-use Rattle.builder.specs.Adding.{Going}
+use Rattle.builder.specs.Private.Adding.{Going}
 use Rattle.builder.proofs.AddingLaws.{done, going-kept, go, begin, going-room}
-use Rattle.builder.specs.Edges.{namesIn, edgesFrom, edgesIn, edgesOf}
+use Rattle.builder.specs.Private.Edges.{namesIn, edgesFrom, edgesIn, edgesOf}
 use Rattle.builder.proofs.TermLaws as laws
 use Rattle.builder.proofs.EdgeLaws as edge
 use Rattle.builder.proofs.edges.put_edges.Statement.{statement}

@@ -1,7 +1,7 @@
 -- `builder::formulas::put_formula` meets its contract. Assumes nothing.
 use mathlib.Core.Path.{_∙_}
 use borrow.Author.Needs.{needs}
-use Rattle.graph.specs.Steps.{listed}
+use Rattle.graph.specs.Private.Steps.{listed}
 use Rattle.builder.proofs.FormulaLaws.{worded}
 use Rattle.builder.proofs.formulas.put_formula.Statement.{statement}
 use Rattle.builder.proofs.formulas.put_formula.Tie as tie

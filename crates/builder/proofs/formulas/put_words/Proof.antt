@@ -5,7 +5,7 @@ use native.Mathlib.Omega.{arith}
 use borrow.Author.Needs.{needs}
 use lib.ListN.{length, take}
 use lib.Seq.{length-take-le, getD-take}
-use Rattle.graph.specs.Steps.{listed}
+use Rattle.graph.specs.Private.Steps.{listed}
 use Rattle.builder.proofs.AddingLaws.{going-kept}
 use Rattle.builder.proofs.FormulaLaws.{Running, running-start, running-enough, running-room, running-step, running-done, running-top}
 use Rattle.builder.proofs.formulas.put_words.Statement.{statement}

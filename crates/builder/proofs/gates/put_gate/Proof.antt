@@ -1,5 +1,5 @@
 -- `put_gate` meets its contract. Assumes nothing.
-use lib.ListN.{length-set}
+use mathlib.Core.Path.{_∙_}
 use native.Mathlib.Numerals.{add-one}
 use native.Mathlib.Omega.{arith}
 use borrow.Author.Needs.{needs}
@@ -15,23 +15,17 @@ mul-at c = search needs
 larger-requires : tie.Need-larger-requires
 larger-requires c κs = search needs
 
-mul-out : tie.Need-mul-out
-mul-out c = search needs
+store-requires : tie.Need-store-requires
+store-requires c κs = search needs
 
-slice-write-out : tie.Need-slice-write-out
-slice-write-out c = search needs
+add-store : tie.Need-add-store
+add-store c = search needs
 
 smaller-requires : tie.Need-smaller-requires
 smaller-requires c κs = search needs
 
-add-out : tie.Need-add-out
-add-out c = search needs
-
-mul-out-2 : tie.Need-mul-out-2
-mul-out-2 c = search needs
-
-slice-write-out-2 : tie.Need-slice-write-out-2
-slice-write-out-2 c = rw length-set (omega arith)
+store-requires-2 : tie.Need-store-requires-2
+store-requires-2 c κs = search needs
 
 add-result : tie.Need-add-result
 add-result c = search needs
@@ -41,7 +35,13 @@ same-length c = search needs
 
 returns : tie.Need-returns
 returns c =
-    record { from = omega arith; count = omega arith; words = rw (c .before .larger .ensures, c .smaller .ensures, add-one) }
+    let second = c .before .before .store2 .ensures in
+    let first = c .before .before .before .before .before .before .before .store .ensures in
+    record {
+      from = omega arith;
+      count = omega arith;
+      words = second ∙ rw (first, c .before .before .before .smaller .ensures, c .before .before .before .before .before .before .before .before .larger .ensures, add-one);
+    }
 
 pub put-gate-spec : {M : Type 1} → statement M
 put-gate-spec =
@@ -50,12 +50,10 @@ put-gate-spec =
     sub-at
     mul-at
     larger-requires
-    mul-out
-    slice-write-out
+    store-requires
+    add-store
     smaller-requires
-    add-out
-    mul-out-2
-    slice-write-out-2
+    store-requires-2
     add-result
     same-length
     returns)

@@ -5,7 +5,7 @@ use Prim.Native.Nat.{_+_, _*_, _-_, _≤_}
 use native.Mathlib.Omega.{arith}
 use borrow.Author.Needs.{needs}
 use lib.Seq.{sets}
-use Rattle.builder.specs.Monitor.{edgePairs}
+use Rattle.builder.specs.Private.Monitor.{edgePairs}
 use Rattle.builder.proofs.TermLaws as laws
 use Rattle.builder.proofs.latches.put_latches.Statement.{statement}
 use Rattle.builder.proofs.latches.put_latches.Tie as tie

@@ -2,7 +2,7 @@
 use mathlib.Core.Path.{_∙_}
 use native.Mathlib.Omega.{arith}
 use borrow.Author.Needs.{needs}
-use Rattle.builder.specs.Monitor.{gatesIn}
+use Rattle.builder.specs.Private.Monitor.{gatesIn}
 use Rattle.builder.proofs.LayoutLaws as layout
 use Rattle.builder.proofs.layout.put_numbers.Statement.{statement}
 use Rattle.builder.proofs.layout.put_numbers.Tie as tie

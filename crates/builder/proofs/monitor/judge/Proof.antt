@@ -5,7 +5,7 @@ use native.Mathlib.Omega.{arith}
 use borrow.Author.Needs.{needs}
 use Rattle.circuit.specs.Gates.{Piece}
 use Rattle.builder.proofs.AddingLaws.{whole-of, room-first, room-second}
-use Rattle.builder.specs.Edges.{edgesIn}
+use Rattle.builder.specs.Private.Edges.{edgesIn}
 use Rattle.builder.proofs.BuildLaws as builds
 use Rattle.builder.proofs.monitor.judge.Statement.{statement}
 use Rattle.builder.proofs.monitor.judge.Tie as tie

@@ -4,7 +4,7 @@ use lib.ListN.{length}
 use native.Mathlib.Omega.{arith}
 use borrow.Author.Needs.{needs}
 use Rattle.builder.proofs.AddingLaws.{room-second, room-first}
-use Rattle.builder.specs.Edges.{edgesIn}
+use Rattle.builder.specs.Private.Edges.{edgesIn}
 use Rattle.builder.proofs.BuildLaws as builds
 use Rattle.builder.proofs.EdgeLaws as edge
 use Rattle.builder.proofs.monitor.put_gates.Statement.{statement}

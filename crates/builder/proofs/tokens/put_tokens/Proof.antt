@@ -1,7 +1,7 @@
 -- `put_tokens` meets its contract. Assumes nothing.
 use borrow.Author.Needs.{needs}
 use Rattle.builder.proofs.AddingLaws.{then}
-use Rattle.builder.specs.Terms.{tokensOf}
+use Rattle.builder.specs.Private.Terms.{tokensOf}
 use Rattle.builder.proofs.tokens.put_tokens.Statement.{statement}
 use Rattle.builder.proofs.tokens.put_tokens.Tie as tie
 

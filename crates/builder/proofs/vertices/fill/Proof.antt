@@ -6,7 +6,7 @@ use Prim.Native.Nat.{_+_, _*_, _-_, _≤_}
 use native.Mathlib.Omega.{arith}
 use native.Mathlib.Nat.{le-antisymm}
 use borrow.Author.Needs.{needs}
-use Rattle.builder.specs.Terms.{everyOther}
+use Rattle.builder.specs.Private.Terms.{everyOther}
 use Rattle.builder.proofs.TermLaws as laws
 use Rattle.builder.proofs.vertices.fill.Statement.{statement}
 use Rattle.builder.proofs.vertices.fill.Tie as tie

@@ -5,7 +5,7 @@ use Prim.Native.Nat.{_*_}
 use native.Mathlib.Omega.{arith}
 use borrow.Author.Needs.{needs}
 use Rattle.builder.proofs.AddingLaws.{room-second, room-first, whole-of}
-use Rattle.builder.specs.Terms.{Gathers}
+use Rattle.builder.specs.Private.Terms.{Gathers}
 use Rattle.builder.proofs.BuildLaws as builds
 use Rattle.builder.proofs.vertices.gather.Statement.{statement}
 use Rattle.builder.proofs.vertices.gather.Tie as tie

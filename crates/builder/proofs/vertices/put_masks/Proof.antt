@@ -2,9 +2,9 @@
 use Prim.Native.Nat.{_+_, _-_, _≤_}
 use native.Mathlib.Omega.{arith}
 use borrow.Author.Needs.{needs}
-use Rattle.builder.specs.Adding.{Going}
+use Rattle.builder.specs.Private.Adding.{Going}
 use Rattle.builder.proofs.AddingLaws.{done, going-room, going-kept, go}
-use Rattle.builder.specs.Terms.{maskGates}
+use Rattle.builder.specs.Private.Terms.{maskGates}
 use Rattle.builder.proofs.TermLaws as laws
 use Rattle.builder.proofs.vertices.put_masks.Statement.{statement}
 use Rattle.builder.proofs.vertices.put_masks.Tie as tie

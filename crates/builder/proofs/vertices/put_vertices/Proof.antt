@@ -6,9 +6,9 @@ use Prim.Native.Nat.{_-_, _≤_}
 use native.Mathlib.Omega.{arith}
 use native.Mathlib.Nat.{le-antisymm}
 use borrow.Author.Needs.{needs}
-use Rattle.builder.specs.Adding.{Going}
+use Rattle.builder.specs.Private.Adding.{Going}
 use Rattle.builder.proofs.AddingLaws.{go, going-room, done, going-kept}
-use Rattle.builder.specs.Terms.{verticesOf}
+use Rattle.builder.specs.Private.Terms.{verticesOf}
 use Rattle.builder.proofs.TermLaws as laws
 use Rattle.builder.proofs.vertices.put_vertices.Statement.{statement}
 use Rattle.builder.proofs.vertices.put_vertices.Tie as tie

@@ -11,7 +11,7 @@ use Rattle.formula.specs.declared.readers.Read.{Read}
 use Rattle.formula.specs.declared.readers.Read.the-variants.{Failed, Done}
 use Rattle.formula.specs.Classes.{startOf, strengthOf, run}
 use Rattle.formula.specs.Grammar.{bit, got, nameOf, expressionOf}
-use Rattle.formula.specs.Readers.{
+use Rattle.formula.specs.Private.Readers.{
   Room,
   LeftRoom,
   Within,

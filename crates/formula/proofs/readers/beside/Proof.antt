@@ -4,7 +4,7 @@ use Prim.Native.Nat.{max}
 use native.Mathlib.Omega.{arith}
 use Rattle.formula.specs.declared.readers.Read.{Read}
 use Rattle.formula.specs.declared.readers.Read.the-variants.{Done}
-use Rattle.formula.specs.Readers.{besideOf}
+use Rattle.formula.specs.Private.Readers.{besideOf}
 use borrow.Author.Needs.{needs}
 use Rattle.formula.proofs.readers.beside.Statement.{statement}
 use Rattle.formula.proofs.readers.beside.Tie as tie

@@ -3,7 +3,7 @@ use mathlib.Core.Path.{_≡_, ap, sym, subst, _∙_}
 use lib.ListN.{getD}
 use native.Mathlib.Omega.{arith}
 use borrow.Author.Tests.{eq-eqb, ne-eqb}
-use Rattle.formula.specs.Readers.{Within, closedOf}
+use Rattle.formula.specs.Private.Readers.{Within, closedOf}
 use borrow.Author.Needs.{needs}
 use Rattle.formula.proofs.readers.closed.Statement.{statement}
 use Rattle.formula.proofs.readers.closed.Tie as tie

@@ -1,7 +1,7 @@
 -- `deeper` meets its contract. Assumes nothing.
 use mathlib.Core.Path.{ap, sym, subst}
 use native.Mathlib.Omega.{arith}
-use Rattle.formula.specs.Readers.{Within, deeperOf}
+use Rattle.formula.specs.Private.Readers.{Within, deeperOf}
 use borrow.Author.Needs.{needs}
 use Rattle.formula.proofs.readers.deeper.Statement.{statement}
 use Rattle.formula.proofs.readers.deeper.Tie as tie

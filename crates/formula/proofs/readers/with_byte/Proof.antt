@@ -3,7 +3,7 @@ use mathlib.Core.Path.{ap, sym, subst, _∙_}
 use native.Mathlib.Omega.{arith}
 use lib.ListN.{length, set}
 use Rattle.formula.specs.declared.readers.Read.{Read}
-use Rattle.formula.specs.Readers.{Writable, countedOf, putOf}
+use Rattle.formula.specs.Private.Readers.{Writable, countedOf, putOf}
 use borrow.Author.Needs.{needs}
 use Rattle.formula.proofs.readers.with_byte.Statement.{statement}
 use Rattle.formula.proofs.readers.with_byte.Tie as tie

@@ -2,7 +2,7 @@
 -- lets an unknown vertex through is wrong there. Assumes nothing.
 use mathlib.Core.Path.{ap, _∙_}
 use borrow.Author.Tests.{not-true, not-false}
-use Rattle.graph.specs.Steps.{addedOf}
+use Rattle.graph.specs.Private.Steps.{addedOf}
 use Rattle.graph.proofs.ArrayLaws.{edge-many, edge-from, edge-to, edge-known}
 use Rattle.graph.proofs.EdgeLaws.{arc-at, edge-judged}
 use native.Mathlib.Omega.{arith}

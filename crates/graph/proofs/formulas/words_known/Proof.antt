@@ -5,7 +5,7 @@ use native.Mathlib.Omega.{arith}
 use lib.ListN.{take, drop}
 use borrow.Author.Needs.{needs}
 use borrow.Author.Tests.{not-true, not-false}
-use Rattle.graph.specs.Steps.{wordsKnown, held}
+use Rattle.graph.specs.Private.Steps.{wordsKnown, held}
 use Rattle.graph.proofs.WordLaws.{words-not, words-more, words-end}
 use Rattle.graph.proofs.formulas.words_known.Statement.{statement}
 use Rattle.graph.proofs.formulas.words_known.Tie as tie

@@ -5,7 +5,7 @@ use native.Mathlib.Omega.{arith}
 use borrow.Author.Needs.{needs}
 use lib.ListN.{take, drop}
 use Rattle.graph.specs.Pieces.{placeOf}
-use Rattle.graph.specs.Steps.{held}
+use Rattle.graph.specs.Private.Steps.{held}
 use Rattle.graph.proofs.NameLaws.{place-found, place-later, place-end}
 use Rattle.graph.proofs.names.place.Statement.{statement}
 use Rattle.graph.proofs.names.place.Tie as tie

@@ -5,7 +5,7 @@ use native.Mathlib.Omega.{arith}
 use lib.ListN.{length}
 use borrow.Author.Needs.{needs}
 use Rattle.simulator.proofs.RunLaws.{asked, length-part, Going, Asked, ready, bytes-enough, going-start, going-line, going-place, going-room, going-next, going-done}
-use Rattle.simulator.proofs.RefusalLaws.{run-passed}
+use Rattle.calls.proofs.RefusalLaws.{run-passed}
 use Rattle.simulator.proofs.running.run_cycles.Statement.{statement}
 use Rattle.simulator.proofs.running.run_cycles.Tie as tie
 

@@ -3,8 +3,8 @@ use mathlib.Core.Path.{sym, _∙_}
 use mathlib.Core.Logic.{⊎-elim}
 use native.Mathlib.Omega.{arith}
 use borrow.Author.Needs.{needs}
-use Rattle.simulator.specs.Tallies.{counted}
-use Rattle.simulator.proofs.TallyLaws.{room-cycles, room-rejected}
+use Rattle.calls.specs.Tallies.{counted}
+use Rattle.calls.proofs.TallyLaws.{room-cycles, room-rejected}
 use Rattle.simulator.proofs.tally.tallied.Statement.{statement}
 use Rattle.simulator.proofs.tally.tallied.Tie as tie
 

@@ -1,0 +1,3 @@
+-- The root of the definitions that the contracts of calls cite, in reading order.
+pub mod Tallies
+pub mod Refusals

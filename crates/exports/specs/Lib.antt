@@ -1,5 +1,0 @@
--- The root of the definitions that the contracts of exports cite, in reading order.
-pub mod Codes
-pub mod Circuits
-pub mod Runs
-pub mod Claims

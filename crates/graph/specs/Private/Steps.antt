@@ -1,0 +1,208 @@
+-- What the private functions of the reader promise. Assumes nothing.
+use Prim.Native.Nat.{ℕ, _+_, _-_, _≤_, _/_, _%_}
+use mathlib.Core.Path.{_≡_}
+use mathlib.Core.Bool.{Bool, true, false}
+use mathlib.Core.List.{List, [], _∷_, map}
+use lib.Dec.{ltb}
+use lib.ListN.{length, take, drop, set}
+use Rattle.formula.specs.Classes.{pick}
+use Rattle.assertion.specs.Graph.{Bytes, Graph}
+use Rattle.graph.specs.Pieces.{endAt, pieceAt, lookUp}
+use Rattle.graph.specs.Records.{Record, shapeless, signal, constant, vertex, edge, marked, edged, recordOf}
+use Rattle.graph.specs.Reading.{Step, fault, went, namesOf, judgedFormula, lower, judgeEdge, addEdge, add}
+use Rattle.graph.specs.Held.{lineStart, lineOf, fieldStart, fieldAt, fieldLength, namePlaces, heldOf}
+use Rattle.graph.specs.declared.Fault.{Fault}
+use Rattle.graph.specs.declared.Judged.{Judged}
+use Rattle.graph.specs.declared.Judged.the-variants.{Fine, Faulty}
+use Rattle.graph.specs.declared.Arc.{Arc}
+use Rattle.graph.specs.declared.CheckedGraph.{CheckedGraph}
+use Rattle.graph.specs.declared.Added.{Added}
+use Rattle.graph.specs.declared.Shape.{Shape}
+use Rattle.graph.specs.declared.Shape.the-variants as shape
+
+-- ---- names and words
+-- the names that start at some places of a text: each is the last field of its line
+abbrev pub held : Bytes → List ℕ → List Bytes
+held text starts = map (pieceAt 10 text) starts
+
+-- the first count of them
+abbrev pub listed : Bytes → List ℕ → ℕ → List Bytes
+listed text starts count = held text (take count starts)
+
+-- a word of a formula below 4096 is a name: 16 times its first place, and its length
+unfoldable pub wordKnown : List Bytes → Bytes → ℕ → Bool
+wordKnown ns s w = pick (ltb w 4096) (lookUp (take (w % 16) (drop (w / 16) s)) ns .known) true
+
+unfoldable pub wordsKnown : List Bytes → Bytes → List ℕ → Bool
+wordsKnown ns s [] = true
+wordsKnown ns s (w ∷ ws) = pick (wordKnown ns s w) (wordsKnown ns s ws) false
+
+-- ---- shapes
+-- the record of a line by the places of its fields
+unfoldable pub viewed : Bytes → Shape → Record
+viewed line shape.Wrong = shapeless
+viewed line (shape.Signal p) = signal (drop p line)
+viewed line (shape.Constant p) = constant (drop p line)
+viewed line (shape.Vertex p) = vertex (drop p line)
+viewed line (shape.Edge f t m a c) =
+    edge (pieceAt 9 line f) (pieceAt 9 line t) m (pieceAt 9 line a) (pieceAt 9 line c)
+
+-- a place is the start of field k, in the line
+abbrev pub FieldOf : Bytes → ℕ → ℕ → Type 0
+FieldOf line k p = (p ≤ length line) × (p ≡ fieldStart line k)
+
+-- a name is field 1, and the formulas are fields 4 and 5
+abbrev pub Placed : Bytes → Shape → Type 0
+Placed line shape.Wrong = Unit {0}
+Placed line (shape.Signal p) = FieldOf line 1 p
+Placed line (shape.Constant p) = FieldOf line 1 p
+Placed line (shape.Vertex p) = FieldOf line 1 p
+Placed line (shape.Edge f t m a c) = FieldOf line 4 a × FieldOf line 5 c
+
+-- a shape is that of a record, with its places
+abbrev pub Shaped : Bytes → Record → Shape → Type 0
+Shaped line r shape = (viewed line shape ≡ r) × Placed line shape
+
+-- the record of six fields whose others start at these places, with its kind, and without
+abbrev pub edgedAt : Bytes → ℕ → ℕ → ℕ → ℕ → ℕ → Record
+edgedAt line f t m a c = edged (pieceAt 9 line 0) (pieceAt 9 line f) (pieceAt 9 line t) (pieceAt 9 line m) (pieceAt 9 line a) (pieceAt 9 line c)
+
+abbrev pub markedAt : Bytes → ℕ → ℕ → ℕ → ℕ → ℕ → Record
+markedAt line f t m a c = marked (pieceAt 9 line f) (pieceAt 9 line t) (pieceAt 9 line m) (pieceAt 9 line a) (pieceAt 9 line c)
+
+-- ---- the arrays and the graph read so far
+-- how many signals and constants, and how many records, a graph has
+abbrev pub namedOf : Graph → ℕ
+namedOf graph = length (graph .signals) + length (graph .constants)
+
+abbrev pub recordsOf : Graph → ℕ
+recordsOf graph = namedOf graph + length (graph .vertices) + length (graph .edges)
+
+-- the arrays hold a graph, whose names stand in the text where they say
+pub record Holds (text : Bytes) (g : CheckedGraph) (graph : Graph) : Type 0 where
+  pub arrays : g ≡ heldOf text graph
+  pub names : held text (namePlaces text 0 (namedOf graph)) ≡ namesOf graph
+  pub points : held text (namePlaces text (namedOf graph) (length (graph .vertices))) ≡ graph .vertices
+
+-- the counts keep to the limits
+pub record Kept (g : CheckedGraph) : Type 0 where
+  pub signals-few : g .signals ≤ 63
+  pub constants-few : g .constants ≤ 6
+  pub vertices-few : g .vertices ≤ 64
+  pub edges-few : g .edges ≤ 128
+
+-- an edge's formulas in the text, and the lower of their faults
+abbrev pub leftOf : Bytes → Arc → Bytes
+leftOf text e = take (e .lefts) (drop (e .left) text)
+
+abbrev pub rightOf : Bytes → Arc → Bytes
+rightOf text e = take (e .rights) (drop (e .right) text)
+
+abbrev pub judgedArc : Bytes → CheckedGraph → Arc → Judged
+judgedArc text g e =
+    let names = listed text (g .names) (g .signals + g .constants) in
+    lower (judgedFormula names (leftOf text e)) (judgedFormula names (rightOf text e))
+
+-- an edge by the places of its formulas in its line, which starts at `at`
+abbrev pub arcFrom : Bytes → ℕ → ℕ → ℕ → Bool → ℕ → ℕ → Arc
+arcFrom line at from to m a c =
+    record {
+      from = from;
+      to = to;
+      marked = m;
+      left = at + a;
+      lefts = endAt 9 line a - a;
+      right = at + c;
+      rights = endAt 9 line c - c;
+    }
+
+-- an edge's formulas stand where those of line n do
+pub record ArcAt (text : Bytes) (n : ℕ) (e : Arc) : Type 0 where
+  pub left : e .left ≡ fieldAt text n 4
+  pub lefts : e .lefts ≡ fieldLength (lineOf text n) 4
+  pub right : e .right ≡ fieldAt text n 5
+  pub rights : e .rights ≡ fieldLength (lineOf text n) 5
+
+-- the line of the next record, its start, and the places of an edge's formulas in it
+pub record EdgeAt (text line : Bytes) (n at a c : ℕ) : Type 0 where
+  pub start : at ≡ lineStart text n
+  pub bytes : line ≡ lineOf text n
+  pub antecedent : FieldOf line 4 a
+  pub consequent : FieldOf line 5 c
+
+-- what a record's step answers: a fault with the arrays as they were, or the arrays of the graph with it
+abbrev pub faultyOf : CheckedGraph → Fault → Added
+faultyOf g f = record { judged = Faulty f; graph = g }
+
+unfoldable pub addedOf : Bytes → CheckedGraph → Step → Added
+addedOf text g (fault f) = faultyOf g f
+addedOf text g (went graph) = record { judged = Fine; graph = heldOf text graph }
+
+-- what a step promises of its answer r, whichever graph the arrays g hold: of a name at p
+abbrev pub AddsName : Bytes → CheckedGraph → ℕ → (Graph → Bytes → Step) → Added → Type 0
+AddsName text g p step r =
+    (graph : Graph) → Holds text g graph → p ≡ fieldAt text (recordsOf graph) 1 → r ≡ addedOf text g (step graph (pieceAt 10 text p))
+
+-- of an edge whose vertices are known
+abbrev pub AddsArc : Bytes → CheckedGraph → Arc → Added → Type 0
+AddsArc text g e r =
+    (graph : Graph) → Holds text g graph → ArcAt text (recordsOf graph) e → r ≡ addedOf text g (judgeEdge graph (e .from) (e .to) (e .marked) (leftOf text e) (rightOf text e))
+
+-- of an edge by the places of its fields in its line
+abbrev pub AddsEdge : Bytes → CheckedGraph → Bytes → ℕ → ℕ → ℕ → Bool → ℕ → ℕ → Added → Type 0
+AddsEdge text g line at f t m a c r =
+    (graph : Graph) → Holds text g graph → EdgeAt text line (recordsOf graph) at a c → r ≡ addedOf text g (addEdge graph (pieceAt 9 line f) (pieceAt 9 line t) m (pieceAt 9 line a) (pieceAt 9 line c))
+
+-- of the line that starts at `at`
+abbrev pub AddsLine : Bytes → CheckedGraph → ℕ → Added → Type 0
+AddsLine text g at r =
+    (graph : Graph) → Holds text g graph → at ≡ lineStart text (recordsOf graph) → r ≡ addedOf text g (add graph (recordOf (lineOf text (recordsOf graph))))
+
+-- ---- the arrays with one more record
+abbrev pub withSignal : CheckedGraph → ℕ → CheckedGraph
+withSignal g p =
+    record {
+      signals = g .signals + 1;
+      constants = g .constants;
+      vertices = g .vertices;
+      edges = g .edges;
+      names = set (g .names) (g .signals) p;
+      points = g .points;
+      arcs = g .arcs;
+    }
+
+abbrev pub withConstant : CheckedGraph → ℕ → CheckedGraph
+withConstant g p =
+    record {
+      signals = g .signals;
+      constants = g .constants + 1;
+      vertices = g .vertices;
+      edges = g .edges;
+      names = set (g .names) (g .signals + g .constants) p;
+      points = g .points;
+      arcs = g .arcs;
+    }
+
+abbrev pub withVertex : CheckedGraph → ℕ → CheckedGraph
+withVertex g p =
+    record {
+      signals = g .signals;
+      constants = g .constants;
+      vertices = g .vertices + 1;
+      edges = g .edges;
+      names = g .names;
+      points = set (g .points) (g .vertices) p;
+      arcs = g .arcs;
+    }
+
+abbrev pub withEdge : CheckedGraph → Arc → CheckedGraph
+withEdge g e =
+    record {
+      signals = g .signals;
+      constants = g .constants;
+      vertices = g .vertices;
+      edges = g .edges + 1;
+      names = g .names;
+      points = g .points;
+      arcs = set (g .arcs) (g .edges) e;
+    }

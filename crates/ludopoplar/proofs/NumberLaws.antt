@@ -1,0 +1,69 @@
+-- No refusal has the number 0. Assumes nothing.
+use Prim.Native.Nat.{_≤_}
+use native.Mathlib.Omega.{arith}
+use Rattle.text.specs.declared.Refusal.{Refusal}
+use Rattle.graph.specs.Reading as graph
+use Rattle.graph.specs.declared.Fault.{Fault}
+use Rattle.graph.specs.declared.Fault.the-variants.{WrongShape, WrongOrder, TooMany, NameRepeated, UnknownVertex, NotFormula, TooDeep, UnknownName}
+use Rattle.graph.specs.declared.Cause.{Cause}
+use Rattle.graph.specs.declared.Cause.the-variants.{TextTooLong, FaultyLine, NoVertex}
+use Rattle.builder.specs.declared.Cause as builder
+use Rattle.builder.specs.declared.Cause.the-variants as built
+use Rattle.builder.specs.Build as build
+use Rattle.aiger.specs.declared.Cause as aiger
+use Rattle.aiger.specs.declared.Cause.the-variants as written
+use Rattle.aiger.specs.Write as write
+use Rattle.aiger_read.specs.declared.Cause as aigerRead
+use Rattle.aiger_read.specs.declared.Cause.the-variants as taken
+use Rattle.aiger_read.specs.declared.Fault.the-variants as faulty
+use Rattle.aiger_read.specs.Read as read
+use Rattle.calls.specs.declared.refusal.Cause as simulator
+use Rattle.calls.specs.declared.refusal.Cause.the-variants as ran
+use Rattle.calls.specs.Refusals as runs
+use Rattle.ludopoplar.specs.Claims.{Numbered}
+
+fault-numbered : (f : Fault) → 1 ≤ graph.faultNumber f
+unfolding graph.faultNumber
+fault-numbered WrongShape = omega arith
+fault-numbered WrongOrder = omega arith
+fault-numbered TooMany = omega arith
+fault-numbered NameRepeated = omega arith
+fault-numbered UnknownVertex = omega arith
+fault-numbered NotFormula = omega arith
+fault-numbered TooDeep = omega arith
+fault-numbered UnknownName = omega arith
+
+graph-numbered : (cause : Cause) → 1 ≤ graph.refusalOf cause .number
+unfolding graph.refusalOf
+graph-numbered TextTooLong = omega arith
+graph-numbered (FaultyLine f line) = fault-numbered f
+graph-numbered NoVertex = omega arith
+
+builds : (cause : builder.Cause) → 1 ≤ build.refusalOf cause .number
+unfolding build.refusalOf
+builds (built.GraphText cause) = graph-numbered cause
+builds built.TooManyVariables = omega arith
+builds built.ShortBuffer = omega arith
+
+writes : (cause : aiger.Cause) → 1 ≤ write.refusalOf cause .number
+unfolding write.refusalOf
+writes written.ShortBuffer = omega arith
+writes written.NotNetlist = omega arith
+
+reads : (cause : aigerRead.Cause) → 1 ≤ read.refusalOf cause .number
+unfolding read.refusalOf
+reads taken.TextTooLong = omega arith
+reads taken.ShortBuffer = omega arith
+reads (taken.FaultyLine faulty.WrongShape line) = omega arith
+reads (taken.FaultyLine faulty.OutOfLimits line) = omega arith
+
+starts : (cause : simulator.Cause) → 1 ≤ runs.refusalOf cause .number
+unfolding runs.refusalOf
+starts ran.TraceTooLong = omega arith
+starts ran.ShortBuffer = omega arith
+starts (ran.WrongLine line) = omega arith
+starts ran.NotNetlist = omega arith
+starts ran.FullTally = omega arith
+
+pub numbered : Numbered
+numbered = record { build-numbered = builds; write-numbered = writes; read-numbered = reads; run-numbered = starts }

@@ -1,0 +1,50 @@
+-- The calls that make, write and read a netlist: the return code, the buffer, and the result through its pointer,
+-- which a refusal leaves as it was. Answer and buffer are those of the call's own definition. Assumes nothing.
+use mathlib.Core.List.{List}
+use Prim.Native.Nat.{ℕ}
+use Rattle.builder.specs.Build as build
+use Rattle.builder.specs.Build.{BuildEnd, buildOf}
+use Rattle.builder.specs.declared.Built.{Built}
+use Rattle.builder.specs.declared.Built.the-variants as built
+use Rattle.aiger.specs.Write as write
+use Rattle.aiger.specs.Write.{WriteEnd, writeOf}
+use Rattle.aiger.specs.declared.Written.{Written}
+use Rattle.aiger.specs.declared.Written.the-variants as written
+use Rattle.aiger_read.specs.Read as read
+use Rattle.aiger_read.specs.Read.{ReadEnd, readOf}
+use Rattle.aiger_read.specs.declared.ReadOutcome.{ReadOutcome}
+use Rattle.aiger_read.specs.declared.ReadOutcome.the-variants as outcome
+use Rattle.ludopoplar.specs.Codes.{acceptedCode, codeOf}
+
+-- the return code, the lent numbers or bytes, and the result
+pub record Filled : Type 0 where
+  pub code : ℕ
+  pub buffer : List ℕ
+  pub result : ℕ
+
+abbrev pub filled : ℕ → List ℕ → ℕ → Filled
+filled c b r = record { code = c; buffer = b; result = r }
+
+-- ---- build: the result is the number of gates
+unfoldable pub buildAs : Built → List ℕ → ℕ → Filled
+buildAs (built.Gates n) net before = filled acceptedCode net n
+buildAs (built.Refused cause) net before = filled (codeOf (build.refusalOf cause)) net before
+
+unfoldable pub buildCall : List ℕ → List ℕ → ℕ → Filled
+buildCall graph net before = let e = buildOf graph net in buildAs (e .answer) (e .net) before
+
+-- ---- write: the result is the number of bytes
+unfoldable pub writeAs : Written → List ℕ → ℕ → Filled
+writeAs (written.Bytes n) text before = filled acceptedCode text n
+writeAs (written.Refused cause) text before = filled (codeOf (write.refusalOf cause)) text before
+
+unfoldable pub writeCall : List ℕ → List ℕ → ℕ → Filled
+writeCall net text before = let e = writeOf net text in writeAs (e .answer) (e .text) before
+
+-- ---- read: the result is the number of numbers
+unfoldable pub readAs : ReadOutcome → List ℕ → ℕ → Filled
+readAs (outcome.Numbers n) net before = filled acceptedCode net n
+readAs (outcome.Refused cause) net before = filled (codeOf (read.refusalOf cause)) net before
+
+unfoldable pub readCall : List ℕ → List ℕ → ℕ → Filled
+readCall text net before = let e = readOf text net in readAs (e .answer) (e .net) before

@@ -1,0 +1,5 @@
+-- The root of the definitions that the contracts of ludopoplar cite, in reading order.
+pub mod Codes
+pub mod Circuits
+pub mod Runs
+pub mod Claims

@@ -1,0 +1,175 @@
+// The C interface: build, write, read, start, step and run as a static library has them. Each function calls
+// the one of its name and puts what that answers where C looks for it. It returns 0 where the call is accepted,
+// else number × 2^32 + line; results go through pointers, which a refusal leaves as they were. Knows nothing of
+// what the calls mean. Exports that code, results, tally and buffers are those that their definitions give.
+// `include/ludopoplar.h` declares these functions to C.
+use aiger::Written;
+use aiger_read::ReadOutcome;
+use builder::Built;
+use calls::Tally;
+use simulator::RunOutcome;
+use simulator::StartOutcome;
+use simulator::StepOutcome;
+use simulator::Verdict;
+use text::Refusal;
+ghost use mathlib.Core.Path.{_≡_};
+ghost use Rattle.ludopoplar.specs.Codes.{codeOf};
+ghost use Rattle.ludopoplar.specs.Circuits.{filled, buildCall, writeCall, readCall};
+ghost use Rattle.ludopoplar.specs.Claims.{Numbered};
+ghost use Rattle.ludopoplar.specs.Runs.{verdictNumber, startCallEnd, startCall, stepCallEnd, stepCall, runCallEnd, runCall};
+
+// A call that is accepted returns this.
+const ACCEPTED: u64 = 0;
+
+// The number of a refusal stands above 32 bits of its line.
+const NUMBER: u64 = 4294967296;
+
+// The return code of a refusal.
+fn code(refusal: Refusal) -> u64
+    ensures { λ r. ⌜ r ≡ codeOf refusal ⌝ }
+{
+    refusal.number as u64 * NUMBER + refusal.line as u64
+}
+
+// The number of a verdict.
+fn verdict_number(verdict: Verdict) -> u64
+    ensures { λ r. ⌜ r ≡ verdictNumber verdict ⌝ }
+{
+    match verdict {
+        Verdict::Accepted => 0,
+        Verdict::Rejected => 1,
+    }
+}
+
+// Builds the monitor of a graph text.
+#[no_mangle]
+pub extern "C" fn ludo_build(graph: &[u8], net: &mut [u16], gates: &mut u64) -> u64
+    ensures { λ r. ⌜ filled r (now (net .exit)) (now (gates .exit)) ≡ buildCall (now (graph .entry)) (now (net .entry)) (now (gates .entry)) ⌝ }
+    ensures numbered { λ _. ⌜ Numbered ⌝ }
+{
+    let built = builder::build(graph, net);
+    match built {
+        Built::Gates(made) => {
+            *gates = made as u64;
+            ACCEPTED
+        }
+        Built::Refused(cause) => code(cause.refusal()),
+    }
+}
+
+// Writes the AIGER file of a netlist.
+#[no_mangle]
+pub extern "C" fn ludo_write(net: &[u16], text: &mut [u8], length: &mut u64) -> u64
+    ensures { λ r. ⌜ filled r (now (text .exit)) (now (length .exit)) ≡ writeCall (now (net .entry)) (now (text .entry)) (now (length .entry)) ⌝ }
+{
+    let written = aiger::write(net, text);
+    match written {
+        Written::Bytes(bytes) => {
+            *length = bytes as u64;
+            ACCEPTED
+        }
+        Written::Refused(cause) => code(cause.refusal()),
+    }
+}
+
+// Reads the netlist of an AIGER file.
+#[no_mangle]
+pub extern "C" fn ludo_read(text: &[u8], net: &mut [u16], length: &mut u64) -> u64
+    ensures { λ r. ⌜ filled r (now (net .exit)) (now (length .exit)) ≡ readCall (now (text .entry)) (now (net .entry)) (now (length .entry)) ⌝ }
+{
+    let outcome = aiger_read::read(text, net);
+    match outcome {
+        ReadOutcome::Numbers(numbers) => {
+            *length = numbers as u64;
+            ACCEPTED
+        }
+        ReadOutcome::Refused(cause) => code(cause.refusal()),
+    }
+}
+
+// Fills the latch words and clears the tally.
+#[no_mangle]
+pub extern "C" fn ludo_start(
+    net: &[u16],
+    latches: &mut [u64],
+    cycles: &mut u32,
+    rejected: &mut u32,
+) -> u64
+    ensures { λ r. ⌜ startCallEnd r (now (latches .exit)) (now (cycles .exit)) (now (rejected .exit)) ≡ startCall (now (net .entry)) (now (latches .entry)) (now (cycles .entry)) (now (rejected .entry)) ⌝ }
+{
+    let tally = Tally {
+        cycles: *cycles,
+        rejected: *rejected,
+    };
+    let started = simulator::start(net, latches, tally);
+    *cycles = started.tally.cycles;
+    *rejected = started.tally.rejected;
+    let outcome = started.outcome;
+    match outcome {
+        StartOutcome::Ready => ACCEPTED,
+        StartOutcome::Refused(cause) => code(cause.refusal()),
+    }
+}
+
+// Runs one cycle.
+#[no_mangle]
+pub extern "C" fn ludo_step(
+    net: &[u16],
+    cycle: &[u8],
+    latches: &mut [u64],
+    values: &mut [u64],
+    cycles: &mut u32,
+    rejected: &mut u32,
+    word: &mut u64,
+) -> u64
+    ensures { λ r. ⌜ stepCallEnd r (now (latches .exit)) (now (values .exit)) (now (cycles .exit)) (now (rejected .exit)) (now (word .exit))
+        ≡ stepCall (now (net .entry)) (now (cycle .entry)) (now (latches .entry)) (now (values .entry)) (now (cycles .entry)) (now (rejected .entry)) (now (word .entry)) ⌝ }
+{
+    let tally = Tally {
+        cycles: *cycles,
+        rejected: *rejected,
+    };
+    let stepped = simulator::step(net, cycle, latches, values, tally);
+    *cycles = stepped.tally.cycles;
+    *rejected = stepped.tally.rejected;
+    let outcome = stepped.outcome;
+    match outcome {
+        StepOutcome::Output(output) => {
+            *word = output;
+            ACCEPTED
+        }
+        StepOutcome::Refused(cause) => code(cause.refusal()),
+    }
+}
+
+// Runs a trace.
+#[no_mangle]
+pub extern "C" fn ludo_run(
+    net: &[u16],
+    trace: &[u8],
+    latches: &mut [u64],
+    values: &mut [u64],
+    verdicts: &mut [u8],
+    cycles: &mut u32,
+    rejected: &mut u32,
+    verdict: &mut u64,
+) -> u64
+    ensures { λ r. ⌜ runCallEnd r (now (latches .exit)) (now (values .exit)) (now (verdicts .exit)) (now (cycles .exit)) (now (rejected .exit)) (now (verdict .exit))
+        ≡ runCall (now (net .entry)) (now (trace .entry)) (now (latches .entry)) (now (values .entry)) (now (verdicts .entry)) (now (cycles .entry)) (now (rejected .entry)) (now (verdict .entry)) ⌝ }
+{
+    let tally = Tally {
+        cycles: *cycles,
+        rejected: *rejected,
+    };
+    let ran = simulator::run(net, trace, latches, values, verdicts, tally);
+    *cycles = ran.tally.cycles;
+    *rejected = ran.tally.rejected;
+    let outcome = ran.outcome;
+    match outcome {
+        RunOutcome::Done(end) => {
+            *verdict = verdict_number(end);
+            ACCEPTED
+        }
+        RunOutcome::Refused(cause) => code(cause.refusal()),
+    }
+}

@@ -1,0 +1,2 @@
+-- The laws that belong to no one function, for the proofs here and in the crates above. Assumes nothing.
+pub mod TraceLaws

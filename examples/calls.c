@@ -1,7 +1,7 @@
 /* Ludopoplar from C: builds the monitor of a small graph, writes its AIGER file and reads it back, runs a
    trace on it, and shows a refusal. At the repository's root:
 
-     cc -std=c99 -Iinclude -o calls examples/calls.c target/staticlib/libexports.a && ./calls */
+     cc -std=c99 -Iinclude -o calls examples/calls.c target/staticlib/libludopoplar.a && ./calls */
 #include <inttypes.h>
 #include <stdio.h>
 #include <string.h>

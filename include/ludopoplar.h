@@ -1,7 +1,7 @@
 /* Ludopoplar: monitor circuits of assertion graphs. Builds the circuit of a graph text, writes and reads
    circuits as AIGER files, and runs them cycle by cycle.
 
-   Link with libexports.a (x86-64 Linux). It needs memcpy and memset of the C library and nothing else.
+   Link with libludopoplar.a (x86-64 Linux). It needs memcpy and memset of the C library and nothing else.
 
    Memory
      The library keeps nothing, allocates nothing and has no state: all memory is the caller's, and is used

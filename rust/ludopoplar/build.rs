@@ -1,4 +1,4 @@
-//! Links the static library `exports` that the repository's proof tool makes.
+//! Links the static library `ludopoplar` that the repository's proof tool makes.
 
 use std::env;
 use std::path::{Path, PathBuf};
@@ -7,19 +7,19 @@ const DIRECTORY_VARIABLE: &str = "LUDOPOPLAR_LIB_DIR";
 
 fn main() {
     let directory = library_directory();
-    let archive = directory.join("libexports.a");
+    let archive = directory.join("libludopoplar.a");
     println!("cargo:rerun-if-env-changed={DIRECTORY_VARIABLE}");
     println!("cargo:rerun-if-changed={}", archive.display());
     if !archive.is_file() {
         eprintln!(
-            "error: {} is missing: run `rt staticlib exports` in the repository's root first, \
-             or set {DIRECTORY_VARIABLE} to the directory that holds libexports.a",
+            "error: {} is missing: run `rt staticlib ludopoplar` in the repository's root first, \
+             or set {DIRECTORY_VARIABLE} to the directory that holds libludopoplar.a",
             archive.display()
         );
         std::process::exit(1);
     }
     println!("cargo:rustc-link-search=native={}", directory.display());
-    println!("cargo:rustc-link-lib=static=exports");
+    println!("cargo:rustc-link-lib=static=ludopoplar");
 }
 
 /// The variable's directory, else `target/staticlib` beside the workspace.

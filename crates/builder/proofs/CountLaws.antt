@@ -20,11 +20,10 @@ use Rattle.formula.proofs.PostfixLaws.{InField, name-word-small, byte-word-larg
 use Rattle.graph.specs.Reading.{joined, symbol, resolved, accepted, graphOf}
 use Rattle.graph.specs.Pieces.{lookUp}
 use Rattle.graph.specs.Held.{heldOf, noArc}
-use Rattle.graph.specs.Private.Steps.{Kept}
 use Rattle.graph.specs.declared.Arc.{Arc}
 use Rattle.graph.specs.declared.CheckedGraph.{CheckedGraph}
-use Rattle.graph.proofs.FieldLaws.{FormulaAt}
-use Rattle.graph.proofs.HeldLaws.{FormulaSound, EdgeSound, Sound, sound}
+use Rattle.graph.specs.Claims.{FormulaAt, FormulaSound, EdgeSound, Sound}
+use Rattle.graph.proofs.HeldLaws.{sound}
 use Rattle.circuit.specs.Count.{formulaGates, allFormulaGates, incoming, entered, terminals, gateFormula}
 use Rattle.builder.specs.Private.Machine.{summed, byteGates, wordGates, gatesAt, readGates, fieldGates, arcGates, goesTo, isReached, hasMark, gatesBy}
 use Rattle.builder.proofs.FormulaLaws.{bit-is}

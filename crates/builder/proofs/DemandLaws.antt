@@ -1,5 +1,5 @@
 -- DEMAND 3 of what build leaves and answers. Assumes nothing.
-use mathlib.Core.Path.{_≡_, refl, sym, subst}
+use mathlib.Core.Path.{_≡_, refl, subst}
 use mathlib.Core.Bool.{Bool, true, false, cond, not}
 use mathlib.Core.List.{List, _++_}
 use Prim.Native.Nat.{ℕ, _+_, _*_, _≤_}
@@ -11,7 +11,6 @@ use Rattle.assertion.specs.Graph.{Bytes, Graph}
 use Rattle.graph.specs.Reading.{accepted, graphOf}
 use Rattle.circuit.specs.Build.{gatesOf}
 use Rattle.circuit.specs.Numbers.{numbersOf}
-use Rattle.demand.specs.Demand.{Demand3}
 use Rattle.demand.proofs.Demand.{demand3}
 use Rattle.demand.proofs.Forms.{either-form}
 use Rattle.builder.specs.declared.Cause.the-variants.{TooManyVariables, ShortBuffer}
@@ -45,12 +44,15 @@ pub build-means : (text : Bytes) (net : List ℕ) → BuildMeans text net
 unfolding buildOf variablesOf
 build-means text net =
     record {
-      demand = λ g made e a.
-          let m = made-so g net made (subst (λ o. buildAs o net .answer ≡ Gates made) e a) in
-          subst (λ o. Demand3 g (buildAs o net .net) made) (sym e)
-          (rw (m .numbers, m .count) (demand3 g (fits text e) (small g (m .small)) (drop (length (numbersOf g)) net)));
+      numbers = λ g made e a. rw e (so g made e a .numbers);
+      demand = λ g made e a surplus.
+          let m = so g made e a in
+          rw (m .count) (demand3 g (fits text e) (small g (m .small)) surplus);
       forms = either-form;
     }
   where
+    so : (g : Graph) (made : ℕ) → graphOf text ≡ accepted g → buildAs (graphOf text) net .answer ≡ Gates made → Made g net made (buildAs (accepted g) net)
+    so g made e a = made-so g net made (subst (λ o. buildAs o net .answer ≡ Gates made) e a)
+
     small : (g : Graph) → variablesOf g ≤ 4095 → length (gatesOf g) + (1 + length (g .signals)) + (length (g .constants) + 2 * length (g .edges)) ≤ 4095
     small g h = omega arith

@@ -2,7 +2,7 @@
 use mathlib.Core.Path.{_≡_, refl, sym, ap, _∙_}
 use mathlib.Core.Bool.{true, false}
 use mathlib.Core.List.{List, [], _∷_, _++_}
-use Prim.Native.Nat.{ℕ, zero, suc, _+_, _-_, _≤_, _<_}
+use Prim.Native.Nat.{ℕ, zero, suc, _+_, _≤_, _<_}
 use native.Mathlib.Numerals.{add-one}
 use native.Mathlib.Omega.{arith}
 use lib.ListN.{length, getD, take, drop, length-take}
@@ -20,7 +20,7 @@ use Rattle.builder.specs.Private.Edges.{namesIn, edgeIn, edgesFrom, edge
 tokens : (m a c h d : ℕ) → tokenGates m a c (two h d) ≡ tokensOf m a c h d
 unfolding tokensOf
 tokens m a c h d =
-    let e : m + 3 - 1 ≡ suc (suc m) = omega arith in
+    let e : m + 2 ≡ suc (suc m) = omega arith in
     let e2 : m + 3 ≡ suc (suc (suc m)) = omega arith in
     rw (e, e2)
 

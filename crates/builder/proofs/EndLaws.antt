@@ -98,10 +98,10 @@ module _ (text : Bytes) (g : CheckedGraph) (a : Accepted text g) where
         let long : length net < length (numbersOf (a .graph)) = omega (arith, size, ap length numbers-of) in
         short-of graph net (rw (same-graph graph q) at few) (rw (same-graph graph q) at long)
 
-    pub done : {out : List ℕ} → r ≤ 4095 - (1 + g .signals + (g .constants + 2 * g .edges)) → 6 + 2 * (g .constants + 2 * g .edges) + 2 * r ≤ length net →
-        out ≡ numbersIn text g ++ drop (length (numbersIn text g)) net → buildEnd (built.Gates r) out ≡ buildAs (accepted graph) net
-    done h l o =
+    pub done : {made : ℕ} {out : List ℕ} → r ≤ 4095 - (1 + g .signals + (g .constants + 2 * g .edges)) → 6 + 2 * (g .constants + 2 * g .edges) + 2 * r ≤ length net →
+        made ≡ length (gatesIn text g) → out ≡ numbersIn text g ++ drop (length (numbersIn text g)) net → buildEnd (built.Gates made) out ≡ buildAs (accepted graph) net
+    done h l m o =
         let few : variablesOf (a .graph) ≤ 4095 = omega (arith, variables, good .signals, good .constants, good .edges) in
         let long : length (numbersOf (a .graph)) ≤ length net = omega (arith, size, ap length numbers-of) in
-        let made : r ≡ length (gatesOf (a .graph)) = c ∙ ap length gates-of in
-        done-of graph net (rw (same-graph graph q) at few) (rw (same-graph graph q) at long) (rw (same-graph graph q) at made) (rw (numbers-of, same-graph graph q) at o)
+        let all : _ ≡ length (gatesOf (a .graph)) = m ∙ ap length gates-of in
+        done-of graph net (rw (same-graph graph q) at few) (rw (same-graph graph q) at long) (rw (same-graph graph q) at all) (rw (numbers-of, same-graph graph q) at o)

@@ -17,7 +17,8 @@ use Rattle.graph.specs.Reading.{known, symbol, joined, resolved, judgedTree, ju
 use Rattle.graph.specs.Held.{noArc, heldOf}
 use Rattle.graph.specs.declared.Arc.{Arc}
 use Rattle.graph.specs.declared.Judged.the-variants.{Fine}
-use Rattle.graph.proofs.HeldLaws.{FormulaSound, EdgeSound, sound}
+use Rattle.graph.specs.Claims.{FormulaSound, EdgeSound}
+use Rattle.graph.proofs.HeldLaws.{sound}
 use Rattle.circuit.proofs.Fits.{Scoped, EdgeFits, AllFit, Fits}
 use Rattle.builder.proofs.EdgeLaws.{from-length}
 use Rattle.builder.specs.Private.Edges.{namesIn, edgeIn, edgesFrom, edgesIn, ArcGood, GraphGood}

@@ -84,6 +84,12 @@ monitor-outs : (s v : ℕ) (es : List Edge) (l f : ℕ) → (length (monitorEdge
 unfolding monitorEdges
 monitor-outs s v es l f = outs-length s _ _ es _
 
+-- the gates that were made, by the variables
+pub made : (text : Bytes) (g : CheckedGraph) {before part hs ds : List ℕ} {f next literal gates : ℕ} → f ≡ gateIn g →
+    MonitorMade (gateIn g) before part next literal hs ds (g .signals) (g .vertices) (edgesIn text g) (latchIn g) → gates ≡ next - f → gates ≡ length (gatesIn text g)
+unfolding gatesIn
+made text g e m d = omega (arith, e, m .gates .count, d)
+
 module _ (text : Bytes) (g : CheckedGraph) (good : GraphGood text g) where
   abbrev base : ℕ
   base = 6 + 2 * g .constants + 4 * g .edges
@@ -114,13 +120,13 @@ module _ (text : Bytes) (g : CheckedGraph) (good : GraphGood text g) where
         base ≤ length (putMid base (length net - base) net part)
     still {part} m = omega (arith, numbers-length, same-len-mid base (length net - base) net part (kept (m .gates)))
 
-    pub stored : {part hs ds : List ℕ} {next literal : ℕ} →
+    pub stored : {part hs ds : List ℕ} {next literal gates : ℕ} →
         MonitorMade (gateIn g) (take (length net - base) (drop base net)) part next literal hs ds (g .signals) (g .vertices) (edgesIn text g) (latchIn g) →
-        sets (putMid base (length net - base) net part) 0 (frontOf (g .signals) (g .constants) (g .edges) (next - gateIn g) hs ds literal)
+        gates ≡ length (gatesIn text g) →
+        sets (putMid base (length net - base) net part) 0 (frontOf (g .signals) (g .constants) (g .edges) gates hs ds literal)
         ≡ numbersIn text g ++ drop (length (numbersIn text g)) net
     unfolding numbersIn frontIn gatesIn
-    stored {part} {hs} {ds} {next} {literal} m =
+    stored m c =
         let z : 2 * (gateIn g - gateIn g) ≡ 0 = omega arith in
-        let c : next - gateIn g ≡ length (gatesIn text g) = omega (arith, m .gates .count) in
         rw (m .happies, m .condemneds, m .accept, c, m .gates .words, z)
         (whole-part net (frontIn text g) (operands (gatesIn text g)) base front-in (omega (arith, numbers-length, words-length (gatesIn text g))))

@@ -96,14 +96,14 @@ drop-past (x ∷ l) (suc count) (suc i) h = drop-past l count i (omega arith)
 
 -- ---- latches: two numbers a turn, and four
 
-pub own-step : (out all : List ℕ) (p l i count x y : ℕ) → i < count → x ≡ lit (l + i) → y ≡ lit (l + i) → sets out p (constantLatches (l + i) (count - i)) ≡ all →
-    sets (set (set out p x) (p + 1) y) (p + 2) (constantLatches (l + (i + 1)) (count - (i + 1))) ≡ all
-own-step out all p l i count x y h q q2 e =
+pub own-step : (out all : List ℕ) (p l i count x : ℕ) → i < count → x ≡ lit (l + i) → sets out p (constantLatches (l + i) (count - i)) ≡ all →
+    sets (set (set out p x) (p + 1) x) (p + 2) (constantLatches (l + (i + 1)) (count - (i + 1))) ≡ all
+own-step out all p l i count x h q e =
     let c : count - i ≡ suc (count - (i + 1)) = omega arith in
     let n : suc (l + i) ≡ l + (i + 1) = omega arith in
     let p1 : p + 1 ≡ suc p = omega arith in
     let p2 : p + 2 ≡ suc (suc p) = omega arith in
-    rw (p1, p2, q, q2, ← n) (rw c at e)
+    rw (p1, p2, q, ← n) (rw c at e)
 
 pub own-end : (out all : List ℕ) (p l i count : ℕ) → count ≤ i → sets out p (constantLatches l (count - i)) ≡ all → out ≡ all
 own-end out all p l i count h e =

@@ -11,22 +11,24 @@ use crate::tokens::put_tokens;
 use graph::Arc;
 use graph::CheckedGraph;
 use graph::part;
+use netlist::Literal;
+use netlist::Variable;
 
 // The gates of an edge whose from-vertex has these literals.
 fn put_edge(
     out: &mut [u16],
-    f: usize,
-    n: usize,
+    f: Variable,
+    n: Variable,
     text: &[u8],
     g: CheckedGraph,
     a: Arc,
-    happy: u16,
-    condemned: u16,
+    happy: Literal,
+    condemned: Literal,
 ) -> Both
     requires { ⌜ (ArcGood (now text) (namesIn (now text) g) (g .vertices) a) × (g .signals ≤ 63) × (g .constants ≤ 6)
-        × (Room f (now out) n (length (edgePiece (g .signals) n (two happy condemned) (edgeIn (now text) (namesIn (now text) g) (g .signals) a) .gates))) ⌝ }
-    ensures { λ r. ⌜ EdgeMade f (now (out .entry)) (now (out .exit)) n (r .next) (r .happy) (r .condemned)
-        (edgePiece (g .signals) n (two happy condemned) (edgeIn (now (text .entry)) (namesIn (now (text .entry)) g) (g .signals) a)) ⌝ }
+        × (Room (f .0) (now out) (n .0) (length (edgePiece (g .signals) (n .0) (two (happy .0) (condemned .0)) (edgeIn (now text) (namesIn (now text) g) (g .signals) a) .gates))) ⌝ }
+    ensures { λ r. ⌜ EdgeMade (f .0) (now (out .entry)) (now (out .exit)) (n .0) (r .next .0) (r .happy .0) (r .condemned .0)
+        (edgePiece (g .signals) (n .0) (two (happy .0) (condemned .0)) (edgeIn (now (text .entry)) (namesIn (now (text .entry)) g) (g .signals) a)) ⌝ }
 {
     let s = g.signals;
     let total = s + g.constants;
@@ -56,8 +58,8 @@ fn put_edge(
 // The gates of the i-th edge.
 fn put_edge_at(
     out: &mut [u16],
-    f: usize,
-    n: usize,
+    f: Variable,
+    n: Variable,
     i: usize,
     text: &[u8],
     g: CheckedGraph,
@@ -65,34 +67,34 @@ fn put_edge_at(
     doomed: &[u16],
 ) -> Both
     requires { ⌜ (i < g .edges) × (GraphGood (now text) g) × (g .vertices ≤ length (now reached)) × (g .vertices ≤ length (now doomed))
-        × (Room f (now out) n (length (edgeOf (g .signals) n (take (g .vertices) (now reached)) (take (g .vertices) (now doomed)) (edgeIn (now text) (namesIn (now text) g) (g .signals) (getD (g .arcs) i noArc)) .gates))) ⌝ }
-    ensures { λ r. ⌜ EdgeMade f (now (out .entry)) (now (out .exit)) n (r .next) (r .happy) (r .condemned)
-        (edgeOf (g .signals) n (take (g .vertices) (now (reached .entry))) (take (g .vertices) (now (doomed .entry))) (edgeIn (now (text .entry)) (namesIn (now (text .entry)) g) (g .signals) (getD (g .arcs) i noArc))) ⌝ }
+        × (Room (f .0) (now out) (n .0) (length (edgeOf (g .signals) (n .0) (take (g .vertices) (now reached)) (take (g .vertices) (now doomed)) (edgeIn (now text) (namesIn (now text) g) (g .signals) (getD (g .arcs) i noArc)) .gates))) ⌝ }
+    ensures { λ r. ⌜ EdgeMade (f .0) (now (out .entry)) (now (out .exit)) (n .0) (r .next .0) (r .happy .0) (r .condemned .0)
+        (edgeOf (g .signals) (n .0) (take (g .vertices) (now (reached .entry))) (take (g .vertices) (now (doomed .entry))) (edgeIn (now (text .entry)) (namesIn (now (text .entry)) g) (g .signals) (getD (g .arcs) i noArc))) ⌝ }
 {
     let a = g.arcs[i];
     let v = a.from;
     let h = reached[v];
     let d = doomed[v];
-    put_edge(out, f, n, text, g, a, h, d)
+    put_edge(out, f, n, text, g, a, Literal(h), Literal(d))
 }
 
 // The gates of all edges, and their happy-now and condemned-now literals.
 pub(crate) fn put_edges(
     out: &mut [u16],
-    f: usize,
-    n: usize,
+    f: Variable,
+    n: Variable,
     text: &[u8],
     g: CheckedGraph,
     reached: &[u16],
     doomed: &[u16],
     happy: &mut [u16],
     condemned: &mut [u16],
-) -> usize
+) -> Variable
     requires { ⌜ (GraphGood (now text) g) × (g .vertices ≤ length (now reached)) × (g .vertices ≤ length (now doomed))
         × (g .edges ≤ length (now happy)) × (g .edges ≤ length (now condemned))
-        × (Room f (now out) n (length (edgesOf (g .signals) n (take (g .vertices) (now reached)) (take (g .vertices) (now doomed)) (edgesIn (now text) g) .gates))) ⌝ }
-    ensures { λ r. ⌜ EdgesMade f (now (out .entry)) (now (out .exit)) n r (take (g .edges) (now (happy .exit))) (take (g .edges) (now (condemned .exit)))
-        (edgesOf (g .signals) n (take (g .vertices) (now (reached .entry))) (take (g .vertices) (now (doomed .entry))) (edgesIn (now (text .entry)) g)) ⌝ }
+        × (Room (f .0) (now out) (n .0) (length (edgesOf (g .signals) (n .0) (take (g .vertices) (now reached)) (take (g .vertices) (now doomed)) (edgesIn (now text) g) .gates))) ⌝ }
+    ensures { λ r. ⌜ EdgesMade (f .0) (now (out .entry)) (now (out .exit)) (n .0) (r .0) (take (g .edges) (now (happy .exit))) (take (g .edges) (now (condemned .exit)))
+        (edgesOf (g .signals) (n .0) (take (g .vertices) (now (reached .entry))) (take (g .vertices) (now (doomed .entry))) (edgesIn (now (text .entry)) g)) ⌝ }
 {
     let edges = g.edges;
     let mut next = n;
@@ -100,8 +102,8 @@ pub(crate) fn put_edges(
     while i < edges {
         let b = put_edge_at(out, f, next, i, text, g, reached, doomed);
         next = b.next;
-        happy[i] = b.happy;
-        condemned[i] = b.condemned;
+        happy[i] = b.happy.0;
+        condemned[i] = b.condemned.0;
         i += 1;
     }
     next

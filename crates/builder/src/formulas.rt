@@ -2,7 +2,7 @@
 ghost use mathlib.Core.Path.{_≡_};
 ghost use mathlib.Core.List.{[], _∷_};
 ghost use Prim.Native.Nat.{_≤_};
-ghost use lib.ListN.{length, take, drop};
+ghost use lib.ListN.{length, take};
 ghost use Rattle.formula.specs.Grammar.{treeOf};
 ghost use Rattle.graph.specs.Reading.{judgedFormula, treeExpr};
 ghost use Rattle.graph.specs.Private.Steps.{listed};
@@ -12,10 +12,15 @@ ghost use Rattle.circuit.specs.Build.{formula};
 ghost use Rattle.builder.specs.Private.Adding.{Added, Room};
 ghost use Rattle.builder.specs.Private.Machine.{Makes, nameLiteral, operated, byteMade, wordMade, taken, program, Enough, Ended};
 use crate::Made;
+use crate::gates::FALSE;
+use crate::gates::SIGNAL;
+use crate::gates::after;
 use crate::gates::inverse;
 use crate::gates::literal;
 use crate::gates::put_gate;
 use graph::part;
+use netlist::Literal;
+use netlist::Variable;
 
 // A word of a formula below this is a name: its first place and its length.
 pub(crate) const NO_NAME: usize = 4096;
@@ -35,27 +40,24 @@ pub(crate) const OR: usize = 124;
 
 pub(crate) const XOR: usize = 94;
 
-// The variable of the first name.
-const FIRST_NAME: usize = 2;
-
 // Two literals at the bottom that no word takes, and one for each word.
 const DEEPEST_STACK: usize = 257;
 
 // The literal of the name that a word gives.
-fn name_literal(text: &[u8], starts: &[usize], total: usize, field: &[u8], w: usize) -> u16
+fn name_literal(text: &[u8], starts: &[usize], total: usize, field: &[u8], w: usize) -> Literal
     requires { ⌜ total ≤ 69 ⌝ }
-    ensures { λ r. ⌜ r ≡ nameLiteral (listed (now (text .entry)) (now (starts .entry)) total) (now (field .entry)) w ⌝ }
+    ensures { λ r. ⌜ r .0 ≡ nameLiteral (listed (now (text .entry)) (now (starts .entry)) total) (now (field .entry)) w ⌝ }
 {
     let name = part(field, w / PLACE, w % PLACE);
     let found = graph::look_up(text, starts, total, name);
     let place = found.place;
-    literal(FIRST_NAME + place, false)
+    literal(after(SIGNAL, place), false)
 }
 
 // Neither of two: one gate.
-fn put_neither(out: &mut [u16], f: usize, n: usize, a: u16, b: u16) -> usize
-    requires { ⌜ Room f (now out) n 1 ⌝ }
-    ensures { λ r. ⌜ Added f (now (out .entry)) (now (out .exit)) n r (gate (inv a) (inv b) ∷ []) ⌝ }
+fn put_neither(out: &mut [u16], f: Variable, n: Variable, a: Literal, b: Literal) -> Variable
+    requires { ⌜ Room (f .0) (now out) (n .0) 1 ⌝ }
+    ensures { λ r. ⌜ Added (f .0) (now (out .entry)) (now (out .exit)) (n .0) (r .0) (gate (inv (a .0)) (inv (b .0)) ∷ []) ⌝ }
 {
     let x = inverse(a);
     let y = inverse(b);
@@ -63,21 +65,21 @@ fn put_neither(out: &mut [u16], f: usize, n: usize, a: u16, b: u16) -> usize
 }
 
 // Just one of two: both, neither, then neither of those.
-fn put_xor(out: &mut [u16], f: usize, n: usize, a: u16, b: u16) -> usize
-    requires { ⌜ Room f (now out) n 3 ⌝ }
-    ensures { λ r. ⌜ Added f (now (out .entry)) (now (out .exit)) n r (xorOf n a b .gates) ⌝ }
+fn put_xor(out: &mut [u16], f: Variable, n: Variable, a: Literal, b: Literal) -> Variable
+    requires { ⌜ Room (f .0) (now out) (n .0) 3 ⌝ }
+    ensures { λ r. ⌜ Added (f .0) (now (out .entry)) (now (out .exit)) (n .0) (r .0) (xorOf (n .0) (a .0) (b .0) .gates) ⌝ }
 {
     let both = literal(n, false);
-    let neither = literal(n + 1, false);
+    let neither = literal(after(n, 1), false);
     let i = put_gate(out, f, n, a, b);
     let j = put_neither(out, f, i, a, b);
     put_neither(out, f, j, both, neither)
 }
 
 // An operator `&`, `|`, `^` or `=` between two literals.
-fn put_operator(out: &mut [u16], f: usize, n: usize, b: usize, x: u16, y: u16) -> Made
-    requires { ⌜ Room f (now out) n (length (operated b n x y .gates)) ⌝ }
-    ensures { λ r. ⌜ Makes f (now (out .entry)) (now (out .exit)) n r (operated b n x y) ⌝ }
+fn put_operator(out: &mut [u16], f: Variable, n: Variable, b: usize, x: Literal, y: Literal) -> Made
+    requires { ⌜ Room (f .0) (now out) (n .0) (length (operated b (n .0) (x .0) (y .0) .gates)) ⌝ }
+    ensures { λ r. ⌜ Makes (f .0) (now (out .entry)) (now (out .exit)) (n .0) r (operated b (n .0) (x .0) (y .0)) ⌝ }
 {
     if b == AND {
         let next = put_gate(out, f, n, x, y);
@@ -90,7 +92,7 @@ fn put_operator(out: &mut [u16], f: usize, n: usize, b: usize, x: u16, y: u16) -
         return Made { next, lit };
     }
     let next = put_xor(out, f, n, x, y);
-    let lit = literal(n + 2, false);
+    let lit = literal(after(n, 2), false);
     if b == XOR {
         return Made { next, lit };
     }
@@ -101,16 +103,16 @@ fn put_operator(out: &mut [u16], f: usize, n: usize, b: usize, x: u16, y: u16) -
 }
 
 // A word that is no name, by its byte; x and y are the literals on top of the stack, y the topmost.
-fn put_byte(out: &mut [u16], f: usize, n: usize, b: usize, x: u16, y: u16) -> Made
-    requires { ⌜ Room f (now out) n (length (byteMade b n x y .gates)) ⌝ }
-    ensures { λ r. ⌜ Makes f (now (out .entry)) (now (out .exit)) n r (byteMade b n x y) ⌝ }
+fn put_byte(out: &mut [u16], f: Variable, n: Variable, b: usize, x: Literal, y: Literal) -> Made
+    requires { ⌜ Room (f .0) (now out) (n .0) (length (byteMade b (n .0) (x .0) (y .0) .gates)) ⌝ }
+    ensures { λ r. ⌜ Makes (f .0) (now (out .entry)) (now (out .exit)) (n .0) r (byteMade b (n .0) (x .0) (y .0)) ⌝ }
 {
     if b == ZERO {
-        let lit = literal(0, false);
+        let lit = literal(FALSE, false);
         return Made { next: n, lit };
     }
     if b == ONE {
-        let lit = literal(0, true);
+        let lit = literal(FALSE, true);
         return Made { next: n, lit };
     }
     if b == NOT {
@@ -123,18 +125,18 @@ fn put_byte(out: &mut [u16], f: usize, n: usize, b: usize, x: u16, y: u16) -> Ma
 // One word: its gates, and the literal that it puts on the stack.
 fn put_word(
     out: &mut [u16],
-    f: usize,
-    n: usize,
+    f: Variable,
+    n: Variable,
     text: &[u8],
     starts: &[usize],
     total: usize,
     field: &[u8],
     w: usize,
-    x: u16,
-    y: u16,
+    x: Literal,
+    y: Literal,
 ) -> Made
-    requires { ⌜ (total ≤ 69) × Room f (now out) n (length (wordMade (listed (now text) (now starts) total) (now field) w n x y .gates)) ⌝ }
-    ensures { λ r. ⌜ Makes f (now (out .entry)) (now (out .exit)) n r (wordMade (listed (now (text .entry)) (now (starts .entry)) total) (now (field .entry)) w n x y) ⌝ }
+    requires { ⌜ (total ≤ 69) × Room (f .0) (now out) (n .0) (length (wordMade (listed (now text) (now starts) total) (now field) w (n .0) (x .0) (y .0) .gates)) ⌝ }
+    ensures { λ r. ⌜ Makes (f .0) (now (out .entry)) (now (out .exit)) (n .0) r (wordMade (listed (now (text .entry)) (now (starts .entry)) total) (now (field .entry)) w (n .0) (x .0) (y .0)) ⌝ }
 {
     if w < NO_NAME {
         let lit = name_literal(text, starts, total, field, w);
@@ -166,8 +168,8 @@ fn taken_by(w: usize) -> usize
 // The words of a formula, one after another.
 fn put_words(
     out: &mut [u16],
-    f: usize,
-    n: usize,
+    f: Variable,
+    n: Variable,
     text: &[u8],
     starts: &[usize],
     total: usize,
@@ -175,8 +177,8 @@ fn put_words(
     words: &[u16],
     count: usize,
 ) -> Made
-    requires { ⌜ (total ≤ 69) × (count ≤ 255) × (count ≤ length (now words)) × Enough 2 (take count (now words)) × Room f (now out) n (length (program (listed (now text) (now starts) total) (now field) (take count (now words)) n .gates)) ⌝ }
-    ensures { λ r. ⌜ Ended f (now (out .entry)) (now (out .exit)) n r (program (listed (now (text .entry)) (now (starts .entry)) total) (now (field .entry)) (take count (now (words .entry))) n) ⌝ }
+    requires { ⌜ (total ≤ 69) × (count ≤ 255) × (count ≤ length (now words)) × Enough 2 (take count (now words)) × Room (f .0) (now out) (n .0) (length (program (listed (now text) (now starts) total) (now field) (take count (now words)) (n .0) .gates)) ⌝ }
+    ensures { λ r. ⌜ Ended (f .0) (now (out .entry)) (now (out .exit)) (n .0) r (program (listed (now (text .entry)) (now (starts .entry)) total) (now (field .entry)) (take count (now (words .entry))) (n .0)) ⌝ }
 {
     let mut stack = [0u16; DEEPEST_STACK];
     let mut height = 2;
@@ -186,24 +188,36 @@ fn put_words(
         let w = words[i] as usize;
         let x = stack[height - 2];
         let y = stack[height - 1];
-        let made = put_word(out, f, next, text, starts, total, field, w, x, y);
+        let made = put_word(
+            out,
+            f,
+            next,
+            text,
+            starts,
+            total,
+            field,
+            w,
+            Literal(x),
+            Literal(y),
+        );
         let below = height - taken_by(w);
         next = made.next;
-        stack[below] = made.lit;
+        stack[below] = made.lit.0;
         height = below + 1;
         i += 1;
     }
+    let top = stack[height - 1];
     Made {
         next,
-        lit: stack[height - 1],
+        lit: Literal(top),
     }
 }
 
 // A formula's gates: `signals` of the names are signals, and the others constants.
 pub(crate) fn put_formula(
     out: &mut [u16],
-    f: usize,
-    n: usize,
+    f: Variable,
+    n: Variable,
     text: &[u8],
     starts: &[usize],
     signals: usize,
@@ -211,9 +225,9 @@ pub(crate) fn put_formula(
     field: &[u8],
 ) -> Made
     requires { ⌜ (judgedFormula (listed (now text) (now starts) total) (now field) ≡ Fine) × (signals ≤ total) × (total ≤ 69)
-        × Room f (now out) n (length (formula signals n (treeExpr signals (listed (now text) (now starts) total) (now field) (treeOf (now field))) .gates)) ⌝ }
-    ensures { λ r. ⌜ Added f (now (out .entry)) (now (out .exit)) n (r .next) (formula signals n (treeExpr signals (listed (now (text .entry)) (now (starts .entry)) total) (now (field .entry)) (treeOf (now (field .entry)))) .gates)
-        × (r .lit ≡ formula signals n (treeExpr signals (listed (now (text .entry)) (now (starts .entry)) total) (now (field .entry)) (treeOf (now (field .entry)))) .out) ⌝ }
+        × Room (f .0) (now out) (n .0) (length (formula signals (n .0) (treeExpr signals (listed (now text) (now starts) total) (now field) (treeOf (now field))) .gates)) ⌝ }
+    ensures { λ r. ⌜ Added (f .0) (now (out .entry)) (now (out .exit)) (n .0) (r .next .0) (formula signals (n .0) (treeExpr signals (listed (now (text .entry)) (now (starts .entry)) total) (now (field .entry)) (treeOf (now (field .entry)))) .gates)
+        × (r .lit .0 ≡ formula signals (n .0) (treeExpr signals (listed (now (text .entry)) (now (starts .entry)) total) (now (field .entry)) (treeOf (now (field .entry)))) .out) ⌝ }
 {
     let read = formula::read(field);
     let count = read.count;

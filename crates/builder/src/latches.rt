@@ -5,18 +5,21 @@ ghost use lib.ListN.{length, take};
 ghost use lib.Seq.{sets};
 ghost use Rattle.circuit.specs.Numbers.{constantLatches};
 ghost use Rattle.builder.specs.Private.Monitor.{edgePairs};
+use crate::gates::after;
 use crate::gates::literal;
+use netlist::Variable;
 
 // The constants' latches: next and reset are their own literals.
-pub(crate) fn put_constants(net: &mut [u16], at: usize, l: usize, count: usize) -> usize
-    requires { ⌜ (at + 2 * count ≤ length (now net)) × (l + count ≤ 4096) ⌝ }
-    ensures { λ r. ⌜ (now (net .exit) ≡ sets (now (net .entry)) at (constantLatches l count)) × (r ≡ at + 2 * count) ⌝ }
+pub(crate) fn put_constants(net: &mut [u16], at: usize, l: Variable, count: usize) -> usize
+    requires { ⌜ (at + 2 * count ≤ length (now net)) × (l .0 + count ≤ 4096) ⌝ }
+    ensures { λ r. ⌜ (now (net .exit) ≡ sets (now (net .entry)) at (constantLatches (l .0) count)) × (r ≡ at + 2 * count) ⌝ }
 {
     let mut p = at;
     let mut i = 0;
     while i < count {
-        net[p] = literal(l + i, false);
-        net[p + 1] = literal(l + i, false);
+        let own = literal(after(l, i), false);
+        net[p] = own.0;
+        net[p + 1] = own.0;
         p += 2;
         i += 1;
     }

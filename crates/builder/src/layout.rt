@@ -6,10 +6,14 @@ ghost use lib.ListN.{length, take, drop};
 ghost use lib.Seq.{sets};
 ghost use Rattle.builder.specs.Private.Edges.{GraphGood};
 ghost use Rattle.builder.specs.Private.Monitor.{headerOf, frontOf, gatesIn, numbersIn};
+use crate::gates::SIGNAL;
+use crate::gates::after;
+use crate::gates::distance;
 use crate::latches::put_constants;
 use crate::latches::put_latches;
 use crate::monitor::put_gates;
 use graph::CheckedGraph;
+use netlist::Literal;
 
 // So many numbers are the header.
 const HEADER: usize = 5;
@@ -35,26 +39,28 @@ fn put_front(
     gates: usize,
     happy: &[u16],
     condemned: &[u16],
-    output: u16,
+    output: Literal,
 )
     requires { ⌜ (6 + 2 * constants + 4 * edges ≤ length (now net)) × ((1 + signals) + (constants + 2 * edges) + gates ≤ 4095)
         × (edges ≤ length (now happy)) × (edges ≤ length (now condemned)) ⌝ }
-    ensures { λ _. ⌜ now (net .exit) ≡ sets (now (net .entry)) 0 (frontOf signals constants edges gates (take edges (now (happy .entry))) (take edges (now (condemned .entry))) output) ⌝ }
+    ensures { λ _. ⌜ now (net .exit) ≡ sets (now (net .entry)) 0 (frontOf signals constants edges gates (take edges (now (happy .entry))) (take edges (now (condemned .entry))) (output .0)) ⌝ }
 {
     put_header(net, 1 + signals, constants + 2 * edges, gates);
-    let p = put_constants(net, HEADER, 2 + signals, constants);
+    let p = put_constants(net, HEADER, after(SIGNAL, signals), constants);
     let q = put_latches(net, p, happy, condemned, edges);
-    net[q] = output;
+    net[q] = output.0;
 }
 
-// All numbers of the monitor, first in the buffer.
-pub(crate) fn put_numbers(net: &mut [u16], text: &[u8], g: CheckedGraph)
+// All numbers of the monitor, first in the buffer; how many gates were made.
+pub(crate) fn put_numbers(net: &mut [u16], text: &[u8], g: CheckedGraph) -> usize
     requires { ⌜ (GraphGood (now text) g) × (length (numbersIn (now text) g) ≤ length (now net))
         × ((1 + g .signals) + (g .constants + 2 * g .edges) + length (gatesIn (now text) g) ≤ 4095) ⌝ }
-    ensures { λ _. ⌜ now (net .exit) ≡ numbersIn (now (text .entry)) g ++ drop (length (numbersIn (now (text .entry)) g)) (now (net .entry)) ⌝ }
+    ensures { λ r. ⌜ (now (net .exit) ≡ numbersIn (now (text .entry)) g ++ drop (length (numbersIn (now (text .entry)) g)) (now (net .entry)))
+        × (r ≡ length (gatesIn (now (text .entry)) g)) ⌝ }
 {
-    let latch = 2 + g.signals + g.constants;
-    let gate = latch + 2 * g.edges;
+    let constant = after(SIGNAL, g.signals);
+    let latch = after(constant, g.constants);
+    let gate = after(latch, 2 * g.edges);
     let base = 6 + 2 * g.constants + 4 * g.edges;
     let mut happy = [0u16; 128];
     let mut condemned = [0u16; 128];
@@ -67,14 +73,16 @@ pub(crate) fn put_numbers(net: &mut [u16], text: &[u8], g: CheckedGraph)
         &mut happy,
         &mut condemned,
     );
+    let gates = distance(gate, made.next);
     put_front(
         net,
         g.signals,
         g.constants,
         g.edges,
-        made.next - gate,
+        gates,
         &happy,
         &condemned,
         made.lit,
     );
+    gates
 }

@@ -6,6 +6,8 @@ use count::gate_count;
 use graph::CheckedGraph;
 use graph::ReadOutcome;
 use layout::put_numbers;
+use netlist::Literal;
+use netlist::Variable;
 use text::Refusal;
 ghost use mathlib.Core.Path.{_≡_};
 ghost use Rattle.assertion.specs.Graph.{Graph};
@@ -48,23 +50,23 @@ pub enum Built {
 
 // A literal, and the next variable after the gates that make it.
 struct Made {
-    next: usize,
-    lit: u16,
+    next: Variable,
+    lit: Literal,
 }
 
 // An OR chain: the next variable, whether it has a term, and the literal that its terms make.
 struct Chain {
-    next: usize,
+    next: Variable,
     some: bool,
-    lit: u16,
+    lit: Literal,
 }
 
 // The happy and condemned literals of a vertex or of an edge, and the next variable after the gates that
 // make them.
 struct Both {
-    next: usize,
-    happy: u16,
-    condemned: u16,
+    next: Variable,
+    happy: Literal,
+    condemned: Literal,
 }
 
 impl Cause {
@@ -100,8 +102,8 @@ fn build_checked(net: &mut [u16], text: &[u8], g: CheckedGraph) -> Built
     if net.len() < 6 + 2 * latches + 2 * gates {
         return Built::Refused(Cause::ShortBuffer);
     }
-    put_numbers(net, text, g);
-    Built::Gates(gates)
+    let made = put_numbers(net, text, g);
+    Built::Gates(made)
 }
 
 // Builds the monitor of a graph text: its numbers stand first in the buffer.

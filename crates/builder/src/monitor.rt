@@ -10,12 +10,13 @@ use crate::columns::fill_columns;
 use crate::edges::put_edges;
 use crate::vertices::gather;
 use graph::CheckedGraph;
+use netlist::Variable;
 
 // The gates of the edges, their literals, and accept.
 fn judge(
     out: &mut [u16],
-    f: usize,
-    n: usize,
+    f: Variable,
+    n: Variable,
     text: &[u8],
     g: CheckedGraph,
     reached: &[u16],
@@ -26,8 +27,8 @@ fn judge(
 ) -> Made
     requires { ⌜ (GraphGood (now text) g) × (g .vertices ≤ length (now reached)) × (g .vertices ≤ length (now doomed))
         × (g .edges ≤ length (now happy)) × (g .edges ≤ length (now condemned)) × (g .edges ≤ length (now marks))
-        × (Room f (now out) n (length (judgeGates (g .signals) n (take (g .vertices) (now reached)) (take (g .vertices) (now doomed)) (take (g .edges) (now marks)) (edgesIn (now text) g)))) ⌝ }
-    ensures { λ r. ⌜ JudgeMade f (now (out .entry)) (now (out .exit)) n (r .next) (r .lit) (take (g .edges) (now (happy .exit))) (take (g .edges) (now (condemned .exit)))
+        × (Room (f .0) (now out) (n .0) (length (judgeGates (g .signals) (n .0) (take (g .vertices) (now reached)) (take (g .vertices) (now doomed)) (take (g .edges) (now marks)) (edgesIn (now text) g)))) ⌝ }
+    ensures { λ r. ⌜ JudgeMade (f .0) (now (out .entry)) (now (out .exit)) (n .0) (r .next .0) (r .lit .0) (take (g .edges) (now (happy .exit))) (take (g .edges) (now (condemned .exit)))
         (g .signals) (take (g .vertices) (now (reached .entry))) (take (g .vertices) (now (doomed .entry))) (take (g .edges) (now (marks .entry))) (edgesIn (now (text .entry)) g) ⌝ }
 {
     let m = put_edges(out, f, n, text, g, reached, doomed, happy, condemned);
@@ -38,17 +39,17 @@ fn judge(
 // the first gate.
 pub(crate) fn put_gates(
     out: &mut [u16],
-    f: usize,
-    l: usize,
+    f: Variable,
+    l: Variable,
     text: &[u8],
     g: CheckedGraph,
     happy: &mut [u16],
     condemned: &mut [u16],
 ) -> Made
-    requires { ⌜ (GraphGood (now text) g) × (g .edges ≤ length (now happy)) × (g .edges ≤ length (now condemned)) × (l + 2 * g .edges ≤ 4096)
-        × (Room f (now out) f (length (monitorGates (g .signals) (g .vertices) (edgesIn (now text) g) l f))) ⌝ }
-    ensures { λ r. ⌜ MonitorMade f (now (out .entry)) (now (out .exit)) (r .next) (r .lit) (take (g .edges) (now (happy .exit))) (take (g .edges) (now (condemned .exit)))
-        (g .signals) (g .vertices) (edgesIn (now (text .entry)) g) l ⌝ }
+    requires { ⌜ (GraphGood (now text) g) × (g .edges ≤ length (now happy)) × (g .edges ≤ length (now condemned)) × (l .0 + 2 * g .edges ≤ 4096)
+        × (Room (f .0) (now out) (f .0) (length (monitorGates (g .signals) (g .vertices) (edgesIn (now text) g) (l .0) (f .0)))) ⌝ }
+    ensures { λ r. ⌜ MonitorMade (f .0) (now (out .entry)) (now (out .exit)) (r .next .0) (r .lit .0) (take (g .edges) (now (happy .exit))) (take (g .edges) (now (condemned .exit)))
+        (g .signals) (g .vertices) (edgesIn (now (text .entry)) g) (l .0) ⌝ }
 {
     let mut to = [0usize; 128];
     let mut marks = [0usize; 128];

@@ -14,6 +14,7 @@ use Rattle.netlist.specs.Valid.{isFree, freeCount}
 use Rattle.netlist.proofs.LaneLaws.{lane-zero, lane-word}
 use Rattle.assertion.specs.Graph.{Edge, Graph, Cycle}
 use Rattle.assertion.specs.Paths.{verdicts, countRejected}
+use Rattle.assertion.proofs.PathLaws.{paths-mean}
 use Rattle.circuit.specs.Build.{gatesOf}
 use Rattle.circuit.specs.Numbers.{numbersOf}
 use Rattle.circuit.proofs.Fits.{Fits}
@@ -29,6 +30,7 @@ use Rattle.calls.specs.declared.tally.Tally.{Tally}
 use Rattle.calls.specs.Tallies.{cleared}
 use Rattle.trace.specs.Traces.{cyclesOf}
 use Rattle.calls.specs.Refusals.{startCheck, stepCheck, runCheck}
+use Rattle.simulator.specs.declared.outcome.StartOutcome.the-variants.{Ready}
 use Rattle.simulator.specs.Start.{startBit, startWords, startAs, startOf}
 use Rattle.simulator.specs.Step.{stepAs, stepOf}
 use Rattle.simulator.specs.Run.{running, runCycles, ranTo, runAs, runOf}
@@ -176,9 +178,13 @@ module _ (g : Graph) (fits : Fits g) (surplus : List ℕ) where
       let a = call-after x seen k r in
       (a .bytes, calls-right xs (seen ++ called net k x .cycles) (called net k x .kept) (a .kept))
 
-  counts : (latches : List ℕ) (t : Tally) → startCheck net (length latches) ≡ Passed → (xs : List Call) → Counted g net [] (keptBy (startOf net latches t)) xs
+  counts : (latches : List ℕ) (t : Tally) → startOf net latches t .answer .outcome ≡ Ready → (xs : List Call) → Counted g net [] (keptBy (startOf net latches t)) xs
   unfolding startOf startAs
-  counts latches t e xs = rw e (calls-right xs [] (record { latches = startWords net (latchCount net) ++ drop (latchCount net) latches; tally = cleared }) (started latches))
+  counts latches t = by (startCheck net (length latches))
+    where
+      by : (c : Checked) → startAs c net latches t .answer .outcome ≡ Ready → (xs : List Call) → Counted g net [] (keptBy (startAs c net latches t)) xs
+      by Passed e xs = calls-right xs [] (record { latches = startWords net (latchCount net) ++ drop (latchCount net) latches; tally = cleared }) (started latches)
+      by (Failed cause) e xs = let z : _≡_ {A = ℕ} 0 1 = cc in absurd (omega arith)
 
 -- the monitor's numbers, with any surplus, do what demand 3 asks
 pub demand3 : (g : Graph) → Fits g → length (gatesOf g) + (1 + length (g .signals)) + (length (g .constants) + 2 * length (g .edges)) ≤ 4095
@@ -189,4 +195,5 @@ demand3 g fits small surplus =
       formula = count g fits;
       bound = omega (arith, count g fits, bound g);
       counted = counts g fits surplus;
+      paths = paths-mean;
     }

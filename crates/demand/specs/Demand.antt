@@ -6,10 +6,9 @@ use Prim.Native.Nat.{ℕ, _+_, _*_, _≤_}
 use lib.ListN.{length, take}
 use Rattle.netlist.specs.Valid.{isNetlist}
 use Rattle.assertion.specs.Graph.{Graph, Cycle}
-use Rattle.assertion.specs.Paths.{verdicts, countRejected}
-use Rattle.calls.specs.declared.refusal.Checked.the-variants.{Passed}
+use Rattle.assertion.specs.Paths.{verdicts, countRejected, PathsMean}
 use Rattle.calls.specs.declared.tally.Tally.{Tally}
-use Rattle.calls.specs.Refusals.{startCheck}
+use Rattle.simulator.specs.declared.outcome.StartOutcome.the-variants.{Ready}
 use Rattle.simulator.specs.Start.{StartEnd, startOf}
 use Rattle.circuit.specs.Count.{gateFormula, allOperators}
 use Rattle.demand.specs.Calls.{Call, stepCall, runCall, Kept, Called, called}
@@ -38,5 +37,8 @@ pub record Demand3 (g : Graph) (net : List ℕ) (made : ℕ) : Type 0 where
   pub netlist : isNetlist net ≡ true
   pub formula : made ≡ gateFormula g
   pub bound : made ≤ 10 * length (g .edges) + 3 * allOperators (g .edges)
-  pub counted : (latches : List ℕ) (t : Tally) → startCheck net (length latches) ≡ Passed
+  -- after any accepted start, with any latch buffer and any tally, and any list of calls
+  pub counted : (latches : List ℕ) (t : Tally) → startOf net latches t .answer .outcome ≡ Ready
       → (xs : List Call) → Counted g net [] (keptBy (startOf net latches t)) xs
+  -- a cycle is counted as rejected, and has the byte 1, exactly if some setting and some rejecting path exist
+  pub paths : PathsMean

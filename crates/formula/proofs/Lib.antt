@@ -1,6 +1,9 @@
 -- The laws that belong to no one function.
 pub mod Answers
+pub mod ByteLaws
 pub mod Examples
+pub mod GrammarComplete
+pub mod GrammarSound
 pub mod NameLaws
 pub mod PostfixLaws
 pub mod Runs

@@ -21,7 +21,7 @@ pub run-step : (s : List ℕ) (i : ℕ) → i < length s → inName (getD s i 0)
 unfolding run
 run-step s i h e = rw (add-one) (ap run (drop-cons s i 0 h) ∙ simp e)
 
-run-le : (l : List ℕ) → run l ≤ length l
+pub run-le : (l : List ℕ) → run l ≤ length l
 unfolding run
 run-le [] = omega arith
 run-le (b ∷ l) = go (inName b) (run-le l)

@@ -12,13 +12,12 @@ use lib.Seq.{sets}
 use borrow.Author.Tests.{lt-ltb, le-ltb, eqb-true}
 use Rattle.text.proofs.WriterLaws.{sets-append}
 use Rattle.formula.proofs.Runs.{run-step}
-use Rattle.formula.specs.declared.Class.{Class}
-use Rattle.formula.specs.declared.Class.the-variants.{Other, Letter, Digit, Underscore, Operator, Opening, Closing, Tab, Lf}
+use Rattle.formula.proofs.ByteLaws.{letter-word, start-name}
 use Rattle.formula.specs.declared.Start.{Start}
 use Rattle.formula.specs.declared.Start.the-variants.{Not, Group, Bit, Name, Nothing}
 use Rattle.formula.specs.declared.readers.Read.{Read}
 use Rattle.formula.specs.declared.readers.Read.the-variants.{Failed, Done}
-use Rattle.formula.specs.Classes.{pick, classOf, strengthOf, isLetter, isWordClass, startOf, run}
+use Rattle.formula.specs.Classes.{pick, classOf, strengthOf, isLetter, startOf, run}
 use Rattle.formula.specs.Grammar.{
   Tree,
   name,
@@ -134,32 +133,10 @@ joins s at k h = inside s at (zero-strength (getD s at 0) (omega arith))
 
 -- A name that starts with a letter has a byte.
 
-letter : (t1 t2 t3 t4 t5 : Bool) → pick t1 Not (pick t2 Group (pick t3 Bit (pick t4 Bit (pick t5 Name Nothing)))) ≡ Name → t5 ≡ true
-letter true t2 t3 t4 t5 e = cc
-letter false true t3 t4 t5 e = cc
-letter false false true t4 t5 e = cc
-letter false false false true t5 e = cc
-letter false false false false true e = refl
-letter false false false false false e = cc
-
-letter-word : (c : Class) → isLetter c ≡ true → isWordClass c ≡ true
-unfolding isLetter isWordClass
-letter-word Other e = e
-letter-word Letter e = e
-letter-word Digit e = refl
-letter-word Underscore e = refl
-letter-word Operator e = e
-letter-word Opening e = e
-letter-word Closing e = e
-letter-word Tab e = e
-letter-word Lf e = e
-
 pub named : (s : List ℕ) (at : ℕ) → startOf (getD s at 0) ≡ Name → 0 < run (drop at s)
-unfolding startOf
 named s at h =
     let b = getD s at 0 in
-    let c = letter (eqb b 33) (eqb b 40) (eqb b 48) (eqb b 49) (isLetter (classOf b)) h in
-    omega (arith, run-step s at (starts s at Name h (omega arith)) (letter-word (classOf b) c))
+    omega (arith, run-step s at (starts s at Name h (omega arith)) (letter-word (classOf b) (start-name b h)))
 
 -- One more word.
 

@@ -1,7 +1,8 @@
 -- The grammar of formulas, as readers of the bytes s from a place: each gives the tree and the place
 -- past it. `!` binds tightest, then `&`, `^`, `|`, and `=` loosest; equal operators group to the left;
 -- within brackets stands a whole formula again. The first argument of a reader bounds how deep its
--- calls go; `treeOf` gives it more than enough. Assumes nothing.
+-- calls go; `treeOf` gives it more than enough. `Claims` says what a formula is without any reader.
+-- Assumes nothing.
 use Prim.Native.Nat.{ℕ, zero, suc, _+_, _*_, max}
 use mathlib.Core.Bool.{Bool, true, false}
 use mathlib.Core.List.{List, [], _∷_, _++_}

@@ -2,4 +2,5 @@
 pub mod Classes
 pub mod Grammar
 pub mod Reading
+pub mod Claims
 pub mod Private

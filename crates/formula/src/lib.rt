@@ -1,10 +1,13 @@
 // The formulas of a graph text: the class of each byte, the binding strength of an operator, names, and
 // the reader that judges whether a field is a formula and gives its depth and its operands and operators
-// in postfix order. Knows nothing of graphs, netlists or which names are declared. Exports that the words
-// of a formula are at most as many as its bytes, and that a name's word tells where it stands.
+// in postfix order. Knows nothing of graphs, netlists or which names are declared. Exports that a field is
+// read as the one tree that it is the text of and that groups as the operators bind, or refused where
+// there is none; that the words of a formula are at most as many as its bytes; and that a name's word
+// tells where it stands.
 ghost use mathlib.Core.Path.{_≡_};
 ghost use Rattle.formula.specs.Grammar.{none};
 ghost use Rattle.formula.specs.Reading.{answerOf, formulaOf};
+ghost use Rattle.formula.specs.Claims.{GrammarMeans};
 
 mod classes;
 mod readers;
@@ -63,6 +66,7 @@ fn unformed() -> Formula
 // Reads a field as a formula, at any depth.
 pub fn read(s: &[u8]) -> Formula
     ensures { λ r. ⌜ r ≡ formulaOf (now (s .entry)) ⌝ }
+    ensures grammar { λ _. ⌜ GrammarMeans (now (s .entry)) ⌝ }
 {
     if LONGEST_FORMULA < s.len() {
         return unformed();

@@ -12,7 +12,8 @@ use Rattle.graph.specs.declared.Cause.the-variants.{NoVertex}
 use Rattle.graph.specs.declared.CheckedGraph.{CheckedGraph}
 use Rattle.graph.specs.declared.ReadOutcome.the-variants.{Checked, Refused}
 use Rattle.graph.specs.declared.GraphRead.{GraphRead}
-use Rattle.graph.proofs.HeldLaws.{Sound, sound}
+use Rattle.graph.specs.Claims.{Sound}
+use Rattle.graph.proofs.HeldLaws.{sound}
 
 module _ (text : Bytes) (g : CheckedGraph) (graph : Graph) (h : g ≡ heldOf text graph) where
   counted : g .vertices ≡ length (graph .vertices)

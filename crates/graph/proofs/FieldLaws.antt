@@ -11,6 +11,7 @@ use Rattle.formula.specs.Classes.{pick, isName}
 use Rattle.assertion.specs.Graph.{Bytes}
 use Rattle.graph.specs.Pieces.{split, upTo, endAt, pieceAt, same}
 use Rattle.graph.specs.Records.{Record, shapeless, signal, constant, vertex, edge, named, marked, edged, ofFields, recordOf}
+use Rattle.graph.specs.Claims.{FormulaAt}
 use Rattle.graph.specs.Held.{lineStart, lineOf, fieldStart, fieldAt, fieldLength}
 use Rattle.graph.proofs.PieceLaws.{split-cut, split-last, split-some, piece-in, piece-last}
 use Rattle.graph.proofs.EdgeLaws.{field-in, up-to-inside}
@@ -44,11 +45,6 @@ unfolding fieldStart
 field-zero line = refl
 
 -- ---- a record whose fields stand in line k of a text
--- the n bytes of the text from p on are x
-pub record FormulaAt (text : Bytes) (p n : ℕ) (x : Bytes) : Type 0 where
-  pub bytes : take n (drop p text) ≡ x
-  pub long : n ≡ length x
-
 abbrev pub Fits : Bytes → ℕ → Record → Type 0
 Fits text k shapeless = Unit {0}
 Fits text k (signal n) = pieceAt 10 text (fieldAt text k 1) ≡ n

@@ -49,30 +49,11 @@ use Rattle.graph.specs.declared.Cause.the-variants.{TextTooLong, FaultyL
 use Rattle.graph.specs.declared.Judged.{Judged}
 use Rattle.graph.specs.declared.Judged.the-variants.{Fine, Faulty}
 use Rattle.graph.specs.declared.Arc.{Arc}
-use Rattle.graph.proofs.FieldLaws.{FormulaAt, Fits, line-fits, two-left}
+use Rattle.graph.specs.Claims.{FormulaAt, FormulaSound, EdgeSound, Sound}
+use Rattle.graph.proofs.FieldLaws.{Fits, line-fits, two-left}
 use Rattle.graph.proofs.ArrayLaws.{filled-length, places-length, places-more, places-first, none-list, one-more, arcs-length}
 
 -- ---- what is claimed
--- the bytes s are a formula over signals ss and constants cs, and x is its meaning
-pub record FormulaSound (ss cs : List Bytes) (s : Bytes) (x : Expr) : Type 0 where
-  pub parse : Tree
-  pub parsed : treeOf s ≡ tree parse
-  pub shallow : depthOf parse ≤ 16
-  pub names-known : known (ss ++ cs) s parse ≡ true
-  pub means : x ≡ resolved (length ss) (ss ++ cs) s parse
-
--- an edge between vertices of vs, whose formulas stand in the text where its arc says
-pub record EdgeSound (text : Bytes) (ss cs vs : List Bytes) (a : Arc) (e : Edge) : Type 0 where
-  pub from-known : e .from < length vs
-  pub to-known : e .to < length vs
-  pub from-is : a .from ≡ e .from
-  pub to-is : a .to ≡ e .to
-  pub marked-is : a .marked ≡ e .marked
-  pub antecedent-at : FormulaAt text (a .left) (a .lefts) (e .antecedentText)
-  pub consequent-at : FormulaAt text (a .right) (a .rights) (e .consequentText)
-  pub antecedent-sound : FormulaSound ss cs (e .antecedentText) (e .antecedent)
-  pub consequent-sound : FormulaSound ss cs (e .consequentText) (e .consequent)
-
 -- edges whose first is line n
 abbrev pub EdgesSound : Bytes → List Bytes → List Bytes → List Bytes → ℕ → List Edge → Type 0
 EdgesSound text ss cs vs n [] = Unit {0}
@@ -87,22 +68,6 @@ pub record Grown (text : Bytes) (graph : Graph) : Type 0 where
   pub names : held text (namePlaces text 0 (namedOf graph)) ≡ namesOf graph
   pub points : held text (namePlaces text (namedOf graph) (length (graph .vertices))) ≡ graph .vertices
   pub edges : EdgesSound text (graph .signals) (graph .constants) (graph .vertices) (namedOf graph + length (graph .vertices)) (graph .edges)
-
--- the graph of an accepted text, by the indices of its arrays
-pub record Sound (text : Bytes) (graph : Graph) : Type 0 where
-  pub signals-few : length (graph .signals) ≤ 63
-  pub constants-few : length (graph .constants) ≤ 6
-  pub some-vertex : 1 ≤ length (graph .vertices)
-  pub vertices-few : length (graph .vertices) ≤ 64
-  pub edges-few : length (graph .edges) ≤ 128
-  pub names-long : length (heldOf text graph .names) ≡ 69
-  pub points-long : length (heldOf text graph .points) ≡ 64
-  pub arcs-long : length (heldOf text graph .arcs) ≡ 128
-  pub names-held : held text (take (namedOf graph) (heldOf text graph .names)) ≡ namesOf graph
-  pub points-held : held text (take (length (graph .vertices)) (heldOf text graph .points)) ≡ graph .vertices
-  pub name-at : (i : ℕ) (d : Bytes) → i < namedOf graph → pieceAt 10 text (getD (heldOf text graph .names) i 0) ≡ getD (namesOf graph) i d
-  pub point-at : (i : ℕ) (d : Bytes) → i < length (graph .vertices) → pieceAt 10 text (getD (heldOf text graph .points) i 0) ≡ getD (graph .vertices) i d
-  pub edge-at : (i : ℕ) (d : Edge) → i < length (graph .edges) → EdgeSound text (graph .signals) (graph .constants) (graph .vertices) (getD (heldOf text graph .arcs) i noArc) (getD (graph .edges) i d)
 
 -- ---- tests that went through
 pick-fault : (t : Bool) (f : Fault) (x : Step) {graph : Graph} → pick t (fault f) x ≡ went graph → (t ≡ false) × (x ≡ went graph)

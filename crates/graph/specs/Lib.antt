@@ -3,4 +3,5 @@ pub mod Pieces
 pub mod Records
 pub mod Reading
 pub mod Held
+pub mod Claims
 pub mod Private

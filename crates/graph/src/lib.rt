@@ -5,10 +5,10 @@ ghost use mathlib.Core.Path.{_≡_};
 ghost use Prim.Native.Nat.{_+_, _≤_};
 ghost use lib.ListN.{length};
 ghost use Rattle.assertion.specs.Graph.{Bytes, Graph};
-ghost use Rattle.assertion.specs.Paths.{PathsMean};
 ghost use Rattle.graph.specs.Pieces.{endAt};
 ghost use Rattle.graph.specs.Reading.{faultNumber, refusalOf, refused, finished, nothing};
 ghost use Rattle.graph.specs.Held.{heldOf, answerOf, readOf};
+ghost use Rattle.graph.specs.Claims.{GraphMeans};
 ghost use Rattle.graph.specs.Private.Steps.{Kept, faultyOf, AddsLine};
 
 mod edges;
@@ -242,7 +242,7 @@ fn finish(g: CheckedGraph) -> GraphRead
 // Reads a graph text: the checked graph, or why the text is refused.
 pub fn read_graph(text: &[u8]) -> GraphRead
     ensures { λ r. ⌜ r ≡ readOf (now (text .entry)) ⌝ }
-    ensures paths { λ _. ⌜ PathsMean ⌝ }
+    ensures sound { λ _. ⌜ GraphMeans (now (text .entry)) ⌝ }
 {
     if LONGEST_TEXT < text.len() {
         return refuse(Cause::TextTooLong);

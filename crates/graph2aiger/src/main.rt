@@ -1,5 +1,10 @@
 // The program that prints AIGER. Standard input holds a graph; standard output gets the AIGER file of its monitor, or the
 // refusal. What is printed is the page of `page::aiger_page`.
+ghost use mathlib.Core.Path.{_≡_};
+ghost use mathlib.Core.List.{List};
+ghost use Prim.Native.Nat.{ℕ, _≤_};
+ghost use lib.ListN.{length, take};
+ghost use Rattle.page.specs.Pages.{aigerText};
 use page::Paged;
 
 const STDIN: i32 = 0;
@@ -12,15 +17,17 @@ const INPUT: usize = 32769;
 // No page is longer.
 const PAGE: usize = 65536;
 
-// Writes a page. A page is refused only where its buffer is too short, and this one never is.
-fn write_page(out: &[u8], paged: Paged) {
+// The page of a whole graph text s, and its length: n bytes were read, which are s, or as many of its first bytes as the
+// buffer holds.
+fn page_of(input: &[u8], n: usize, out: &mut [u8]) -> usize
+    requires { ⌜ (n ≤ length (now input)) × (length (now input) ≡ 32769) × (length (now out) ≡ 65536) ⌝ }
+    ensures { λ r. ⌜ (r ≤ length (now (out .exit)))
+        × ((s : List ℕ) → take n (now (input .entry)) ≡ take (length (now (input .entry))) s → take r (now (out .exit)) ≡ aigerText s) ⌝ }
+{
+    let paged = page::aiger_page(&input[..n], out);
     match paged {
-        Paged::Bytes(end) => {
-            if end <= out.len() {
-                io::write_all(STDOUT, &out[0..end]);
-            }
-        }
-        Paged::Refused(_) => {}
+        Paged::Bytes(end) => end,
+        Paged::Refused(_) => 0,
     }
 }
 
@@ -28,6 +35,6 @@ fn main() {
     let mut input = [0u8; INPUT];
     let mut out = [0u8; PAGE];
     let n = io::read_full(STDIN, &mut input);
-    let paged = page::aiger_page(&input[..n], &mut out);
-    write_page(&out, paged);
+    let end = page_of(&input, n, &mut out);
+    io::write_all(STDOUT, &out[..end]);
 }

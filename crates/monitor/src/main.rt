@@ -1,5 +1,10 @@
 // The monitor program. Standard input holds a graph, a line `T` and a trace; standard output gets the rejected
 // cycles and the sum, or the refusal. What is printed is the page of `page::monitor_page`.
+ghost use mathlib.Core.Path.{_≡_};
+ghost use mathlib.Core.List.{List};
+ghost use Prim.Native.Nat.{ℕ, _≤_};
+ghost use lib.ListN.{length, take};
+ghost use Rattle.page.specs.Pages.{monitorText};
 use page::Paged;
 
 const STDIN: i32 = 0;
@@ -12,15 +17,17 @@ const INPUT: usize = 65537;
 // No page is longer.
 const PAGE: usize = 250991;
 
-// Writes a page. A page is refused only where its buffer is too short, and this one never is.
-fn write_page(out: &[u8], paged: Paged) {
+// The page of a whole input s, and its length: n bytes were read, which are s, or as many of its first bytes as the
+// buffer holds.
+fn page_of(input: &[u8], n: usize, out: &mut [u8]) -> usize
+    requires { ⌜ (n ≤ length (now input)) × (length (now input) ≡ 65537) × (length (now out) ≡ 250991) ⌝ }
+    ensures { λ r. ⌜ (r ≤ length (now (out .exit)))
+        × ((s : List ℕ) → take n (now (input .entry)) ≡ take (length (now (input .entry))) s → take r (now (out .exit)) ≡ monitorText s) ⌝ }
+{
+    let paged = page::monitor_page(&input[..n], out);
     match paged {
-        Paged::Bytes(end) => {
-            if end <= out.len() {
-                io::write_all(STDOUT, &out[0..end]);
-            }
-        }
-        Paged::Refused(_) => {}
+        Paged::Bytes(end) => end,
+        Paged::Refused(_) => 0,
     }
 }
 
@@ -28,6 +35,6 @@ fn main() {
     let mut input = [0u8; INPUT];
     let mut out = [0u8; PAGE];
     let n = io::read_full(STDIN, &mut input);
-    let paged = page::monitor_page(&input[..n], &mut out);
-    write_page(&out, paged);
+    let end = page_of(&input, n, &mut out);
+    io::write_all(STDOUT, &out[..end]);
 }

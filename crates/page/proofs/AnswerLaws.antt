@@ -54,7 +54,7 @@ module _ (text : Bytes) {room : List ℕ} (means : BuildMeans text room) {r : Bu
 -- ---- a start, and a run over the trace
 
 pub machine-text : (net trace : List ℕ) {started : Started} {ran : Ran} {latches latches′ values verdicts : List ℕ}
-    → startEnd started latches ≡ startOf net (replicate 4095 0) cleared
+    → startEnd started latches ≡ startOf net (replicate 4094 0) cleared
     → runEnd ran latches′ values verdicts ≡ runOf net trace latches (replicate 4096 0) (replicate 32768 0) (started .tally)
     → outcomePage (ran .outcome) (ran .tally) verdicts ≡ machinePage net trace
 unfolding machinePage machineEnd

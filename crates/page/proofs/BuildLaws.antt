@@ -98,7 +98,9 @@ module _ (room : List ℕ) (enough : 8194 ≤ length room) where
   -- ---- what demand 3 says of the numbers that an accepted build leaves
   module _ (text : Bytes) (means : BuildMeans text room) (made : ℕ) (h : buildOf text room .answer ≡ Gates made) where
     pub made-netlist : isNetlist (buildOf text room .net) ≡ true
-    made-netlist = let m = build-made text made h in means .demand (m .g) made (m .graph) h .netlist
+    made-netlist =
+        let m = build-made text made h in
+        rw (m .net) (means .demand (m .g) made (m .graph) h (drop (length (numbersOf (m .g))) room) .netlist)
 
     -- surplus is no part of the file
     pub made-file : fileOf (buildOf text room .net) ≡ graphPage (graphOf text) (λ g. fileOf (numbersOf g))

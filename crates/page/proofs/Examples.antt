@@ -58,6 +58,8 @@ monitorRows =
     -- as a consequent, `p|q&r` at 1,0,0 is 1, and `p=q=r` at 0,0,0 is 0
     ∷ row "S\tp\nS\tq\nS\tr\nV\ta\nE\ta\ta\tt\t1\tp|q&r\nT\n1100\n" "sum\t1\t0\taccepted\n"
     ∷ row "S\tp\nS\tq\nS\tr\nV\ta\nE\ta\ta\tt\t1\tp=q=r\nT\n1000\n" "R\t1\nsum\t1\t1\trejected\n"
+    -- and `p=q` at 0,0 is 1, which tells `=` from `^`
+    ∷ row "S\tp\nS\tq\nV\ta\nE\ta\ta\tt\t1\tp=q\nT\n100\n" "sum\t1\t0\taccepted\n"
     -- `10` is no formula
     ∷ row "V\ta\nE\ta\ta\tt\t10\t1\nT\n1\n" "refused\t7\t2\n"
     ∷ []

@@ -25,6 +25,7 @@ use Rattle.builder.specs.Claims.{BuildMeans}
 use Rattle.calls.specs.declared.refusal.Cause.the-variants.{WrongLine}
 use Rattle.calls.specs.declared.refusal.Checked.{Checked}
 use Rattle.calls.specs.declared.refusal.Checked.the-variants.{Passed, Failed}
+use Rattle.simulator.specs.declared.outcome.StartOutcome.the-variants.{Ready}
 use Rattle.simulator.specs.declared.outcome.RunOutcome.{RunOutcome}
 use Rattle.simulator.specs.declared.outcome.RunOutcome.the-variants.{Done}
 use Rattle.calls.specs.declared.tally.Tally.{Tally}
@@ -46,7 +47,7 @@ use Rattle.page.proofs.BuildLaws.{Made, build-made}
 
 -- a netlist and a trace of a program's input; the words and bytes lent are enough for every netlist and every such trace
 module _ (net trace : List ℕ) (netlist : isNetlist net ≡ true) (short : length trace ≤ 65536) (lent values bytes : List ℕ)
-    (lent-enough : 4095 ≤ length lent) (values-enough : 4096 ≤ length values) (bytes-enough : 32768 ≤ length bytes) where
+    (lent-enough : 4094 ≤ length lent) (values-enough : 4096 ≤ length values) (bytes-enough : 32768 ≤ length bytes) where
   held : Valid net
   held = valid net netlist
 
@@ -65,7 +66,11 @@ module _ (net trace : List ℕ) (netlist : isNetlist net ≡ true) (short : leng
   -- ---- the start is accepted
   starts : startCheck net (length lent) ≡ Passed
   unfolding startCheck hasLatches
-  starts = rw (netlist, le-leb (latchCount net) (length lent) (omega (arith, held .sum, held .small)))
+  starts = rw (netlist, le-leb (latchCount net) (length lent) (omega (arith, held .sum, held .some, held .small)))
+
+  started : startOf net lent cleared .answer .outcome ≡ Ready
+  unfolding startOf startAs
+  started = ap (λ (c : Checked). startAs c net lent cleared .answer .outcome) starts
 
   start-tally : startOf net lent cleared .answer .tally ≡ cleared
   unfolding startOf startAs
@@ -137,7 +142,7 @@ module _ (net trace : List ℕ) (netlist : isNetlist net ≡ true) (short : leng
 
     -- what demand 3 says of the one run
     counted : Counted g net [] (keptBy (startOf net lent cleared)) (runCall trace values bytes ∷ [])
-    counted = demand .counted lent cleared starts (runCall trace values bytes ∷ [])
+    counted = demand .counted lent cleared started (runCall trace values bytes ∷ [])
 
     bytes-right : take (length cycles) (ending .verdicts) ≡ verdicts g [] cycles
     unfolding Counted BytesRight called
@@ -181,7 +186,9 @@ module _ (buffer : List ℕ) (enough : 8194 ≤ length buffer) (text trace : Byt
   g = build-made buffer enough text made h .g
 
   demand : Demand3 g net made
-  demand = means .demand g made (build-made buffer enough text made h .graph) h
+  demand =
+      let m = build-made buffer enough text made h in
+      rw (m .net) (means .demand g made (m .graph) h (drop (length (numbersOf g)) buffer))
 
   lengths : (n : ℕ) → n ≤ length (replicate {A = ℕ} n 0)
   lengths n = omega (arith, length-replicate {A = ℕ} n 0)
@@ -191,10 +198,10 @@ module _ (buffer : List ℕ) (enough : 8194 ≤ length buffer) (text trace : Byt
       ≡ cond b (judgement g (cyclesOf (inputCount net) trace)) (refusedLine (refusalOf (WrongLine (faultOf (inputCount net) trace))))
   unfolding machinePage machineEnd
   by-fault true e =
-      page-right net trace (demand .netlist) short (replicate 4095 0) (replicate 4096 0) (replicate 32768 0) (lengths 4095) (lengths 4096) (lengths 32768)
+      page-right net trace (demand .netlist) short (replicate 4094 0) (replicate 4096 0) (replicate 32768 0) (lengths 4094) (lengths 4096) (lengths 32768)
       g made demand e
   by-fault false e =
-      page-wrong net trace (demand .netlist) short (replicate 4095 0) (replicate 4096 0) (replicate 32768 0) (lengths 4095) (lengths 4096) (lengths 32768) e
+      page-wrong net trace (demand .netlist) short (replicate 4094 0) (replicate 4096 0) (replicate 32768 0) (lengths 4094) (lengths 4096) (lengths 32768) e
 
   pub judged : machinePage net trace ≡ graphPage (graphOf text) (tracePage trace)
   unfolding tracePage inputsOf

@@ -38,8 +38,8 @@ use Rattle.aiger.specs.Format.{fileOf}
 use Rattle.aiger.proofs.LengthLaws.{joined-length, file-length}
 use Rattle.page_text.specs.Parts.{graphLength, graphPart, tracePart}
 use Rattle.page_text.specs.Lines.{field, refusedLine, rejectedLine, verdictField, sumLine, cycleLine, report}
-use Rattle.page.specs.Pages.{refusalOf, graphPage, inputsOf, judgement, tracePage, monitorText, aigerText}
-use Rattle.page.specs.declared.Cause.the-variants.{InputTooLong}
+use Rattle.page.specs.Pages.{inputRefusal, graphPage, inputsOf, judgement, tracePage, monitorText, aigerText}
+use Rattle.page.specs.declared.InputFault.the-variants.{TooLong}
 use Rattle.page.proofs.BuildLaws.{numbers-most, made-netlist, made-file}
 use Rattle.page.proofs.SizeLaws.{graph-size, graph-line, graph-number}
 
@@ -245,16 +245,16 @@ module _ (input : Bytes) where
   trace-any short = omega (arith, length-drop (graphLength input + 2) input)
 
   pub monitor-fits : length (monitorText input) ≤ 250991
-  unfolding monitorText refusalOf
+  unfolding monitorText inputRefusal
   monitor-fits = go (leb (length input) 65536) refl
     where
       go : (b : Bool) → leb (length input) 65536 ≡ b
-          → length (cond b (graphPage (graphOf (graphPart input)) (tracePage (tracePart input))) (refusedLine (refusalOf InputTooLong))) ≤ 250991
+          → length (cond b (graphPage (graphOf (graphPart input)) (tracePage (tracePart input))) (refusedLine (inputRefusal TooLong))) ≤ 250991
       go true l =
           let short = leb-true (length input) 65536 l in
           page-most (graphPart input) (tracePage (tracePart input)) 250991 (omega arith)
           (λ g e v. trace-most g (tracePart input) (trace-any short) (trace-short short g e))
-      go false l = omega (arith, refused-length (refusalOf InputTooLong) (omega arith) (omega arith))
+      go false l = omega (arith, refused-length (inputRefusal TooLong) (omega arith) (omega arith))
 
 -- ---- the page of AIGER text
 module _ (buffer : List ℕ) (enough : 8194 ≤ length buffer) (text : Bytes) (means : BuildMeans text buffer) where

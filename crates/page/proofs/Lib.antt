@@ -5,4 +5,5 @@ mod JudgedLaws
 mod SizeLaws
 mod LengthLaws
 mod AnswerLaws
+pub mod ProgramLaws
 mod Examples

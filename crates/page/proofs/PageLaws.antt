@@ -20,12 +20,13 @@ use Rattle.aiger.specs.Write.{WriteEnd, writeEnd, writeOf}
 use Rattle.aiger.specs.declared.Written.{Written}
 use Rattle.aiger.specs.declared.Written.the-variants as written
 use Rattle.aiger.specs.declared.Cause.the-variants as aiger
-use Rattle.page.specs.declared.Cause.the-variants.{InputTooLong, ShortBuffer}
+use Rattle.page.specs.declared.Cause.the-variants.{ShortBuffer}
+use Rattle.page.specs.declared.InputFault.the-variants.{TooLong}
 use Rattle.page.specs.declared.Paged.{Paged}
 use Rattle.page.specs.declared.Paged.the-variants.{Bytes, Refused}
 use Rattle.page_text.specs.Parts.{graphLength, graphPart, tracePart}
 use Rattle.page_text.specs.Lines.{refusedLine}
-use Rattle.page.specs.Pages.{refusalOf, graphPage, tracePage, monitorText, PageEnd, pageEnd, pageOf}
+use Rattle.page.specs.Pages.{inputRefusal, graphPage, tracePage, monitorText, PageEnd, pageEnd, pageOf}
 
 -- ---- a text that was measured over no bytes is its page, refused or written
 module _ (page out : List ℕ) {d : List ℕ} {need : ℕ} (small : length out < top) (dry : Wrote [] d 0 need page) where
@@ -64,7 +65,7 @@ file-page net out {w} {t} is e = ap page e ∙ rw is (go (leb (length (fileOf ne
 -- ---- the page of the monitor
 
 module _ (s : List ℕ) where
-  pub long-text : 65536 < length s → monitorText s ≡ refusedLine (refusalOf InputTooLong)
+  pub long-text : 65536 < length s → monitorText s ≡ refusedLine (inputRefusal TooLong)
   unfolding monitorText
   long-text h = rw (lt-leb (length s) 65536 h)
 

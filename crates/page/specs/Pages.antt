@@ -21,14 +21,19 @@ use Rattle.calls.specs.declared.refusal.Cause.the-variants.{WrongLine}
 use Rattle.page_text.specs.Parts.{graphPart, tracePart}
 use Rattle.page_text.specs.Lines.{refusedLine, report}
 use Rattle.page.specs.declared.Cause.{Cause}
-use Rattle.page.specs.declared.Cause.the-variants.{InputTooLong, ShortBuffer}
+use Rattle.page.specs.declared.Cause.the-variants.{ShortBuffer}
+use Rattle.page.specs.declared.InputFault.{InputFault}
+use Rattle.page.specs.declared.InputFault.the-variants.{TooLong}
 use Rattle.page.specs.declared.Paged.{Paged}
 use Rattle.page.specs.declared.Paged.the-variants as paged
 
 -- the number and line of each cause
 unfoldable pub refusalOf : Cause → Refusal
-refusalOf InputTooLong = record { number = 1; line = 0 }
 refusalOf ShortBuffer = record { number = 12; line = 0 }
+
+-- and of each fault of a whole input, whose refusal is the text of its page
+unfoldable pub inputRefusal : InputFault → Refusal
+inputRefusal TooLong = record { number = 1; line = 0 }
 
 -- the page of a graph text: refused as build refuses it, else what is printed of its graph
 unfoldable pub graphPage : Outcome → (Graph → Bytes) → Bytes
@@ -54,7 +59,7 @@ unfoldable pub monitorText : Bytes → Bytes
 monitorText input =
     cond (leb (length input) 65536)
     (graphPage (graphOf (graphPart input)) (tracePage (tracePart input)))
-    (refusedLine (refusalOf InputTooLong))
+    (refusedLine (inputRefusal TooLong))
 
 -- ---- the program that prints AIGER: its whole input is a graph text
 unfoldable pub aigerText : Bytes → Bytes

@@ -20,7 +20,7 @@ ghost use Rattle.netlist.specs.Valid.{isNetlist};
 ghost use Rattle.graph.specs.Reading.{graphOf};
 ghost use Rattle.aiger.specs.Format.{fileOf};
 ghost use Rattle.page_text.specs.Lines.{refusedLine, report};
-ghost use Rattle.page.specs.Pages.{refusalOf, graphPage, tracePage, pageEnd, pageOf, monitorText, aigerText};
+ghost use Rattle.page.specs.Pages.{refusalOf, inputRefusal, graphPage, tracePage, pageEnd, pageOf, monitorText, aigerText};
 ghost use Rattle.page.specs.Private.Machine.{outcomePage, machinePage};
 
 // The longest input of a program.
@@ -32,17 +32,22 @@ const MAX_NUMBERS: usize = 8194;
 
 // The most latch words and value words of a netlist, and the most cycles of a trace in a program's input, whose
 // lines have two bytes at least.
-const MAX_LATCHES: usize = 4095;
+const MAX_LATCHES: usize = 4094;
 
 const MAX_VALUES: usize = 4096;
 
 const MAX_CYCLES: usize = 32768;
 
+// Why a page is refused.
 pub enum Cause {
-    // The program's input is over 65,536 bytes. This one is only ever the text of a page.
-    InputTooLong,
     // The buffer is shorter than the page.
     ShortBuffer,
+}
+
+// Why an input is refused as a whole: the refusal is the text of its page.
+enum InputFault {
+    // It is over 65,536 bytes.
+    TooLong,
 }
 
 // What a page function answers.
@@ -58,11 +63,21 @@ impl Cause {
         ensures { λ r. ⌜ r ≡ refusalOf self ⌝ }
     {
         match self {
-            Cause::InputTooLong => Refusal { number: 1, line: 0 },
             Cause::ShortBuffer => Refusal {
                 number: 12,
                 line: 0,
             },
+        }
+    }
+}
+
+impl InputFault {
+    // The number and line that are printed.
+    fn refusal(self) -> Refusal
+        ensures { λ r. ⌜ r ≡ inputRefusal self ⌝ }
+    {
+        match self {
+            InputFault::TooLong => Refusal { number: 1, line: 0 },
         }
     }
 }
@@ -153,8 +168,8 @@ pub fn monitor_page(input: &[u8], out: &mut [u8]) -> Paged
     ensures fits { λ _. ⌜ length (monitorText (now (input .entry))) ≤ 250991 ⌝ }
 {
     if input.len() > MAX_INPUT {
-        let cause = Cause::InputTooLong;
-        return refused_page(out, cause.refusal());
+        let fault = InputFault::TooLong;
+        return refused_page(out, fault.refusal());
     }
     let end = graph_length(input);
     let at = if end < input.len() { end + 2 } else { end };

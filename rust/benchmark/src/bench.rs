@@ -1,6 +1,4 @@
-//! One netlist with all that the calls on it are lent, and timing.
-
-use crate::c_loop::processor_seconds;
+//! One netlist with all that the calls on it are lent.
 
 /// What start, step and run are lent beside the netlist.
 #[derive(Clone, Debug, PartialEq)]
@@ -79,18 +77,4 @@ impl Bench {
             rejected: tally.rejected,
         }
     }
-}
-
-/// Processor seconds of each piece of work in the best of so many repetitions.
-/// The pieces take turns, so that a busy machine slows all of them alike.
-pub fn best<const N: usize>(repetitions: usize, mut work: [&mut dyn FnMut(); N]) -> [f64; N] {
-    let mut least = [f64::INFINITY; N];
-    for _ in 0..repetitions {
-        for (piece, least) in work.iter_mut().zip(&mut least) {
-            let begun = processor_seconds();
-            piece();
-            *least = least.min(processor_seconds() - begun);
-        }
-    }
-    least
 }

@@ -1,4 +1,4 @@
-//! The C loop of `c/run.c`, and the clock of `c/clock.c`.
+//! The C loop of `c/run.c`.
 
 use crate::bench::Words;
 
@@ -14,17 +14,6 @@ extern "C" {
         cycles: *mut u32,
         rejected: *mut u32,
     ) -> i32;
-}
-
-mod clock {
-    extern "C" {
-        pub fn processor_seconds() -> f64;
-    }
-}
-
-pub fn processor_seconds() -> f64 {
-    // SAFETY: it takes nothing and keeps nothing.
-    unsafe { clock::processor_seconds() }
 }
 
 /// Runs an accepted trace over words that fit the netlist.

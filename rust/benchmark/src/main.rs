@@ -4,10 +4,12 @@
 mod bench;
 mod c_loop;
 mod calls;
+mod clock;
 mod graphs;
 mod traces;
 
-use bench::{best, Bench, Words};
+use bench::{Bench, Words};
+use clock::best;
 use std::fmt::Debug;
 use std::hint::black_box;
 

@@ -1,34 +1,11 @@
 //! The cases: one call, or a list of calls on one netlist.
 
-use crate::compare::{compare, Call, Lengths, Memory, Mismatch, Name, Outcome};
-use crate::coverage::Coverage;
+use crate::bench::Bench;
+use crate::compare::{Call, Lengths, Memory, Mismatch, Name};
 use crate::random::Random;
+use crate::round_trip::write_and_read_back;
 use crate::{aigers, graphs, netlists, sequence, traces};
 use reference::{formula_of_gates, Graph, Netlist, Tally};
-
-/// What a case draws from and what it reports to.
-pub struct Bench<'a> {
-    pub random: Random,
-    pub coverage: &'a mut Coverage,
-}
-
-impl Bench<'_> {
-    pub fn compare(&mut self, call: &Call, memory: Memory) -> Result<Outcome, Mismatch> {
-        let outcome = compare(call, memory)?;
-        self.coverage.record(call.name, &outcome);
-        Ok(outcome)
-    }
-
-    /// A length for a buffer that needs this one: enough, just enough or too short.
-    pub fn length(&mut self, needed: usize) -> usize {
-        match self.random.below(16) {
-            0 => needed.saturating_sub(1),
-            1 if self.random.coin() => self.random.within(0..=needed),
-            2..=6 => needed,
-            _ => needed + self.random.below(20),
-        }
-    }
-}
 
 pub fn case(bench: &mut Bench) -> Result<(), Mismatch> {
     match bench.random.below(20) {
@@ -90,43 +67,6 @@ fn read(bench: &mut Bench) -> Result<(), Mismatch> {
 fn write(bench: &mut Bench) -> Result<(), Mismatch> {
     let net = netlists::any(&mut bench.random);
     write_and_read_back(bench, net)
-}
-
-/// Writes the numbers; if they are written, reading the text gives them back.
-pub fn write_and_read_back(bench: &mut Bench, net: Vec<u16>) -> Result<(), Mismatch> {
-    let mut scratch = vec![0; 65_536];
-    let needed = reference::write(&net, &mut scratch).unwrap_or(bench.random.below(3_000));
-    let lengths = Lengths {
-        text: bench.length(needed),
-        ..Lengths::default()
-    };
-    let memory = Memory::random(&mut bench.random, lengths);
-    let call = Call::on_net(Name::Write, net, Vec::new());
-    let written = bench.compare(&call, memory)?;
-    if written.is_accepted() {
-        let text = &written.memory.text.get()[..written.memory.answer as usize];
-        read_back(bench, &call.net, text)?;
-    }
-    Ok(())
-}
-
-fn read_back(bench: &mut Bench, net: &[u16], text: &[u8]) -> Result<(), Mismatch> {
-    let lengths = Lengths {
-        net: net.len(),
-        ..Lengths::default()
-    };
-    let memory = Memory::random(&mut bench.random, lengths);
-    let call = Call::on_bytes(Name::Read, text.to_vec());
-    let read = bench.compare(&call, memory)?;
-    let count = read.memory.answer as usize;
-    if !read.is_accepted() || count > net.len() || read.memory.net.get()[..count] != net[..count] {
-        let text = text.escape_ascii();
-        return Err(Mismatch(format!(
-            "write, then read gives other numbers\nnumbers: {net:?}\ntext: \"{text}\"\n"
-        )));
-    }
-    bench.coverage.read_back += 1;
-    Ok(())
 }
 
 /// The lengths that the calls on a netlist need; some small ones if it is none.

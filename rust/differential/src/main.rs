@@ -3,6 +3,7 @@
 //! after refusals; and tallies and verdicts with the paths of the graph.
 
 mod aigers;
+mod bench;
 mod cases;
 mod compare;
 mod coverage;
@@ -10,11 +11,12 @@ mod damage;
 mod graphs;
 mod netlists;
 mod random;
+mod round_trip;
 mod sequence;
 mod sweep;
 mod traces;
 
-use cases::Bench;
+use bench::Bench;
 use coverage::Coverage;
 use random::Random;
 use std::process::ExitCode;

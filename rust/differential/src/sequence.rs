@@ -2,8 +2,9 @@
 //! with latch words and tally handed on, refused calls included; its tally and
 //! verdicts against the paths of the graph.
 
-use crate::cases::{write_and_read_back, Bench};
+use crate::bench::Bench;
 use crate::compare::{Call, Lengths, Memory, Mismatch, Name, Outcome};
+use crate::round_trip::write_and_read_back;
 use crate::{graphs, netlists, traces};
 use reference::{rejected_cycles, Graph, Tally};
 

@@ -1,6 +1,6 @@
 //! Every change of one byte or one number in a few small inputs.
 
-use crate::cases::Bench;
+use crate::bench::Bench;
 use crate::compare::{Call, Lengths, Memory, Mismatch, Name};
 use reference::Tally;
 

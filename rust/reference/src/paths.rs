@@ -1,8 +1,8 @@
 //! What demand 3 counts, read off the graph and the cycles: no latch, gate or
 //! tally is looked at.
 
+use crate::formula::Formula;
 use crate::graph::{Atom, Edge, Graph};
-use crate::Formula;
 use std::collections::BTreeSet;
 
 /// A path as far as later edges can tell: the vertex it has come to, and

@@ -58,7 +58,7 @@ same-length c = search needs
 returns-3 : tie.Need-returns-3
 returns-3 c =
     λ graph q. let a = c .before .before .before .before .before .before .before .before .before .before .before .before .args in
-    ends.done (a .text .now) (a .g) (c .before .before .before .before .before .before .before .before .before .before .before .before .pre) (a .net .now) (ends.counted (a .text .now) (a .g) (c .before .before .before .before .before .before .before .before .before .before .before .before .pre) (c .before .before .before .before .before .before .before .before .before .gate-count .ensures)) graph q (c .before .before .before .before .before .if1 .left) (c .before .before .before .before .if2 .left) (c .before .before .put-numbers .ensures)
+    ends.done (a .text .now) (a .g) (c .before .before .before .before .before .before .before .before .before .before .before .before .pre) (a .net .now) (ends.counted (a .text .now) (a .g) (c .before .before .before .before .before .before .before .before .before .before .before .before .pre) (c .before .before .before .before .before .before .before .before .before .gate-count .ensures)) graph q (c .before .before .before .before .before .if1 .left) (c .before .before .before .before .if2 .left) (c .before .before .put-numbers .ensures .1) (c .before .before .put-numbers .ensures .0)
 
 pub build-checked-spec : {M : Type 1} → statement M
 build-checked-spec =

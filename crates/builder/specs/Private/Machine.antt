@@ -21,8 +21,8 @@ use Rattle.builder.specs.declared.Made.{Made}
 
 -- a piece was stored from the variable n on
 pub record Makes (f : ℕ) (before after : List ℕ) (n : ℕ) (r : Made) (p : Piece) : Type 0 where
-  pub gates : Added f before after n (r .next) (p .gates)
-  pub out : r .lit ≡ p .out
+  pub gates : Added f before after n (r .next .0) (p .gates)
+  pub out : r .lit .0 ≡ p .out
 
 -- ---- one word of a formula
 -- a literal without gates
@@ -72,8 +72,8 @@ program ns s ws n = ran ns s ws (0 ∷ 0 ∷ []) n
 
 -- the gates of words were stored from the variable n on, and the literal is the topmost of the stack
 pub record Ended (f : ℕ) (before after : List ℕ) (n : ℕ) (r : Made) (p : Ran) : Type 0 where
-  pub gates : Added f before after n (r .next) (p .gates)
-  pub top : r .lit ≡ getD (p .stack) 0 0
+  pub gates : Added f before after n (r .next .0) (p .gates)
+  pub top : r .lit .0 ≡ getD (p .stack) 0 0
 
 -- from a stack of h literals no word takes those two, and at the end there is one more
 abbrev pub Enough : ℕ → List ℕ → Type 0

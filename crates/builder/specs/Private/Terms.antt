@@ -1,5 +1,5 @@
 -- The pieces of the monitor over the arrays that the code holds. Assumes nothing.
-use Prim.Native.Nat.{ℕ, zero, suc, _+_, _-_}
+use Prim.Native.Nat.{ℕ, zero, suc, _+_}
 use mathlib.Core.Bool.{Bool, true, false, cond}
 use mathlib.Core.List.{List, [], _∷_, _++_}
 use lib.ListN.{length}
@@ -78,9 +78,9 @@ acceptOf n marks cs = let p = orOn false n (lit init) (termsOf 1 marks cs) in re
 abbrev pub happyGates : ℕ → ℕ → ℕ → ℕ → List Gate
 happyGates m a c h = gate a h ∷ gate (lit m) c ∷ gate (lit m) (inv c) ∷ []
 
-abbrev pub condemnedGates : ℕ → ℕ → ℕ → List Gate
-condemnedGates m a d = gate a d ∷ gate (inv (lit (m - 1))) (inv (lit m)) ∷ []
+abbrev pub condemnedGates : ℕ → ℕ → ℕ → ℕ → List Gate
+condemnedGates m q a d = gate a d ∷ gate (inv q) (inv (lit m)) ∷ []
 
 -- the five gates of an edge
 unfoldable pub tokensOf : ℕ → ℕ → ℕ → ℕ → ℕ → List Gate
-tokensOf m a c h d = happyGates m a c h ++ condemnedGates (m + 3) a d
+tokensOf m a c h d = happyGates m a c h ++ condemnedGates (m + 3) (lit (m + 2)) a d

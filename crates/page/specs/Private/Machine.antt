@@ -20,7 +20,7 @@ outcomePage (Refused cause) t bytes = refusedLine (refusalOf cause)
 -- in these bytes
 unfoldable pub machineEnd : List ℕ → List ℕ → RunEnd
 machineEnd net trace =
-    let s = startOf net (replicate 4095 0) cleared in
+    let s = startOf net (replicate 4094 0) cleared in
     runOf net trace (s .latches) (replicate 4096 0) (replicate 32768 0) (s .answer .tally)
 
 unfoldable pub machinePage : List ℕ → List ℕ → List ℕ

@@ -24,11 +24,13 @@ same-length c = search needs
 returns : tie.Need-returns
 returns c =
     let a = c .before .before .before .before .before .before .before .before .before .args in
-    let e = laws.more-term _ (a .c .next) (a .c .lit) (a .t) (c .before .before .before .before .before .before .before .if1 .taken) in
+    let e = laws.more-term _ (a .c .next .0) (a .c .lit .0) (a .t .0) (c .before .before .before .before .before .before .before .if1 .taken) in
     rw (e, ← c .before .before .before .before .before .inverse .ensures, ← c .before .before .before .before .inverse2 .ensures) (c .before .before .before .put-gate .ensures, refl, c .literal .ensures)
 
 returns-2 : tie.Need-returns-2
-returns-2 c = rw (laws.first-term _ (c .before .before .args .c .next) (c .before .before .args .c .lit) (c .before .before .args .t) (c .if1 .left)) (none _ _ _ (c .before .before .pre .from), refl, refl)
+returns-2 c =
+    let s = c .before .before .before in
+    rw (laws.first-term _ (s .args .c .next .0) (s .args .c .lit .0) (s .args .t .0) (c .before .if1 .left)) (none _ _ _ (s .pre .from), refl, refl)
 
 pub or-term-spec : {M : Type 1} → statement M
 or-term-spec =

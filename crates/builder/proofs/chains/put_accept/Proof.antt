@@ -19,7 +19,7 @@ same-length c = search needs
 returns : tie.Need-returns
 unfolding acceptOf
 returns c =
-    let m = c .before .before .before .put-or .ensures in
+    let m = c .before .before .before .before .put-or .ensures in
     (m .0, c .inverse .ensures ∙ ap inv (m .1))
 
 pub put-accept-spec : {M : Type 1} → statement M

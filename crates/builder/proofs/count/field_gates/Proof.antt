@@ -11,12 +11,12 @@ read-requires : tie.Need-read-requires
 read-requires c κs = search needs
 
 words-gates-requires : tie.Need-words-gates-requires
-words-gates-requires c κs = words-room _ (c .before .before .before .read .ensures)
+words-gates-requires c κs = words-room _ (c .before .before .before .read .ensures .0)
 
 returns : tie.Need-returns
 returns c =
     let a = c .before .before .before .before .before .before .before .args in
-    (field-counted (a .text .now) (a .at) (a .n) (c .before .before .before .before .before .part .ensures) (c .before .before .before .before .read .ensures) (c .words-gates .ensures .0), c .words-gates .ensures .1)
+    (field-counted (a .text .now) (a .at) (a .n) (c .before .before .before .before .before .part .ensures) (c .before .before .before .before .read .ensures .0) (c .words-gates .ensures .0), c .words-gates .ensures .1)
 
 pub field-gates-spec : {M : Type 1} → statement M
 field-gates-spec = tie.close (tie.spec part-requires read-requires words-gates-requires returns)

@@ -21,7 +21,7 @@ put-formula-requires c κs =
     let a = c .before .before .before .before .before .before .before .args in
     let p = c .before .before .before .before .before .before .before .pre in
     let e = edgeIn (a .text .now) (namesIn (a .text .now) (a .t5)) (a .t5 .signals) (a .a) in
-    rw (c .part .ensures) (p .0 .left-fine, omega arith, omega arith, room-first (edge.edge-first (a .t5 .signals) (a .n) (a .happy) (a .condemned) e _ _ refl refl) (p .3))
+    rw (c .part .ensures) (p .0 .left-fine, omega arith, omega arith, room-first (edge.edge-first (a .t5 .signals) (a .n .0) (a .happy .0) (a .condemned .0) e _ _ refl refl) (p .3))
 
 part-requires-2 : tie.Need-part-requires-2
 part-requires-2 c κs = search needs
@@ -37,8 +37,8 @@ put-formula-requires-2 c κs =
       p .0 .right-fine,
       omega arith,
       omega arith,
-      room-first (edge.edge-second (a .t5 .signals) (a .n) (a .happy) (a .condemned) e _ _ (l .0 .count) refl)
-          (room-second (edge.edge-first (a .t5 .signals) (a .n) (a .happy) (a .condemned) e _ _ (l .0 .count) refl) (p .3) (l .0)),
+      room-first (edge.edge-second (a .t5 .signals) (a .n .0) (a .happy .0) (a .condemned .0) e _ _ (l .0 .count) refl)
+          (room-second (edge.edge-first (a .t5 .signals) (a .n .0) (a .happy .0) (a .condemned .0) e _ _ (l .0 .count) refl) (p .3) (l .0)),
     )
 
 put-tokens-requires : tie.Need-put-tokens-requires
@@ -49,8 +49,8 @@ put-tokens-requires c κs =
     let e = edgeIn (a .text .now) (namesIn (a .text .now) (a .t5)) (a .t5 .signals) (a .a) in
     let l = rw (c .before .before .before .before .before .before .before .before .before .before .before .before .part .ensures) at (c .before .before .before .before .before .before .before .before .before .before .before .put-formula .ensures) in
     let r = rw (c .before .before .before .before .part2 .ensures) at (c .before .before .before .put-formula2 .ensures) in
-    room-second (edge.edge-second (a .t5 .signals) (a .n) (a .happy) (a .condemned) e _ _ (l .0 .count) (r .0 .count))
-    (room-second (edge.edge-first (a .t5 .signals) (a .n) (a .happy) (a .condemned) e _ _ (l .0 .count) (r .0 .count)) (p .3) (l .0)) (r .0)
+    room-second (edge.edge-second (a .t5 .signals) (a .n .0) (a .happy .0) (a .condemned .0) e _ _ (l .0 .count) (r .0 .count))
+    (room-second (edge.edge-first (a .t5 .signals) (a .n .0) (a .happy .0) (a .condemned .0) e _ _ (l .0 .count) (r .0 .count)) (p .3) (l .0)) (r .0)
 
 same-length : tie.Need-same-length
 same-length c = search needs
@@ -63,9 +63,9 @@ returns c =
     let l = rw (c .before .before .before .before .before .before .before .before .before .before .before .before .before .before .before .part .ensures) at (c .before .before .before .before .before .before .before .before .before .before .before .before .before .before .put-formula .ensures) in
     let r = rw (c .before .before .before .before .before .before .before .part2 .ensures) at (c .before .before .before .before .before .before .put-formula2 .ensures) in
     let t = rw (l .1, r .1) at (c .before .before .put-tokens .ensures) in
-    let o = edge.edge-outs (a .t5 .signals) (a .n) (a .happy) (a .condemned) e _ _ (l .0 .count) (r .0 .count) in
+    let o = edge.edge-outs (a .t5 .signals) (a .n .0) (a .happy .0) (a .condemned .0) e _ _ (l .0 .count) (r .0 .count) in
     record {
-      gates = whole-of (edge.edge-first (a .t5 .signals) (a .n) (a .happy) (a .condemned) e _ _ (l .0 .count) (r .0 .count)) (l .0) (then (r .0) (t .0));
+      gates = whole-of (edge.edge-first (a .t5 .signals) (a .n .0) (a .happy .0) (a .condemned .0) e _ _ (l .0 .count) (r .0 .count)) (l .0) (then (r .0) (t .0));
       happy = t .1 ∙ o .0;
       condemned = t .2 ∙ o .1;
     }

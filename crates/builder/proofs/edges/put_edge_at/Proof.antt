@@ -15,23 +15,31 @@ element-copy-out-a : tie.Need-element-copy-out-a
 element-copy-out-a c = search needs
 
 mul-h : tie.Need-mul-h
-mul-h c = record { fits = omega (arith, c .before .before .before .before .before .pre .1 .each (c .before .before .before .before .before .args .i) (c .before .before .before .before .before .pre .0) .from, c .before .before .before .before .before .pre .1 .vertices) }
+mul-h c =
+    let s = c .before .before .before .before .before in
+    record { fits = omega (arith, s .pre .1 .each (s .args .i) (s .pre .0) .from, s .pre .1 .vertices) }
 
 shared-slice-read-h : tie.Need-shared-slice-read-h
-shared-slice-read-h c = omega (arith, c .before .before .before .before .before .before .pre .1 .each (c .before .before .before .before .before .before .args .i) (c .before .before .before .before .before .before .pre .0) .from, c .before .before .before .before .before .before .pre .2)
+shared-slice-read-h c =
+    let s = c .before .before .before .before .before .before in
+    omega (arith, s .pre .1 .each (s .args .i) (s .pre .0) .from, s .pre .2)
 
 mul-d : tie.Need-mul-d
-mul-d c = record { fits = omega (arith, c .before .before .before .before .before .before .pre .1 .each (c .before .before .before .before .before .before .args .i) (c .before .before .before .before .before .before .pre .0) .from, c .before .before .before .before .before .before .pre .1 .vertices) }
+mul-d c =
+    let s = c .before .before .before .before .before .before in
+    record { fits = omega (arith, s .pre .1 .each (s .args .i) (s .pre .0) .from, s .pre .1 .vertices) }
 
 shared-slice-read-d : tie.Need-shared-slice-read-d
-shared-slice-read-d c = omega (arith, c .before .before .before .before .before .before .before .pre .1 .each (c .before .before .before .before .before .before .before .args .i) (c .before .before .before .before .before .before .before .pre .0) .from, c .before .before .before .before .before .before .before .pre .3)
+shared-slice-read-d c =
+    let s = c .before .before .before .before .before .before .before in
+    omega (arith, s .pre .1 .each (s .args .i) (s .pre .0) .from, s .pre .3)
 
 put-edge-requires : tie.Need-put-edge-requires
 put-edge-requires c κs =
     let a = c .before .before .before .before .before .before .before .before .args in
     let p = c .before .before .before .before .before .before .before .before .pre in
     let w = p .1 .each (a .i) (p .0) in
-    let e = edge.edge-at (a .t6 .signals) (a .n) (a .t6 .vertices) (a .reached .now) (a .doomed .now) (a .text .now) (namesIn (a .text .now) (a .t6)) (getD (a .t6 .arcs) (a .i) noArc) (w .from) in
+    let e = edge.edge-at (a .t6 .signals) (a .n .0) (a .t6 .vertices) (a .reached .now) (a .doomed .now) (a .text .now) (namesIn (a .text .now) (a .t6)) (getD (a .t6 .arcs) (a .i) noArc) (w .from) in
     (w, p .1 .signals, p .1 .constants, rw e at (p .4))
 
 same-length : tie.Need-same-length
@@ -42,7 +50,7 @@ returns c =
     let a = c .before .before .before .before .before .before .before .before .before .before .before .args in
     let p = c .before .before .before .before .before .before .before .before .before .before .before .pre in
     let w = p .1 .each (a .i) (p .0) in
-    let e = edge.edge-at (a .t6 .signals) (a .n) (a .t6 .vertices) (a .reached .now) (a .doomed .now) (a .text .now) (namesIn (a .text .now) (a .t6)) (getD (a .t6 .arcs) (a .i) noArc) (w .from) in
+    let e = edge.edge-at (a .t6 .signals) (a .n .0) (a .t6 .vertices) (a .reached .now) (a .doomed .now) (a .text .now) (namesIn (a .text .now) (a .t6)) (getD (a .t6 .arcs) (a .i) noArc) (w .from) in
     rw e (c .before .before .put-edge .ensures)
 
 pub put-edge-at-spec : {M : Type 1} → statement M

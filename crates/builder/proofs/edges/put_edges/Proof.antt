@@ -14,14 +14,14 @@ use Rattle.builder.proofs.edges.put_edges.Statement.{statement}
 use Rattle.builder.proofs.edges.put_edges.Tie as tie
 
 abbrev Inv-loop : tie.InvT-loop
-Inv-loop out₀ f n text g reached doomed happy₀ condemned₀ edges next₀ i₀ out happy condemned next i =
-    let p = edgesOf (g .signals) n (take (g .vertices) reached) (take (g .vertices) doomed) (edgesIn text g) in
-    let q = edgesOf (g .signals) next (take (g .vertices) reached) (take (g .vertices) doomed) (edgesFrom text (namesIn text g) (g .signals) (drop i (take (g .edges) (g .arcs)))) in
-    (i ≤ g .edges) × Going f out₀ out n next (p .gates) (q .gates) × (take i happy ++ q .happy ≡ p .happy) × (take i condemned ++ q .condemned ≡ p .condemned)
+Inv-loop out₀ f text g reached doomed happy₀ condemned₀ edges next₀ i₀ out happy condemned next i =
+    let p = edgesOf (g .signals) (next₀ .0) (take (g .vertices) reached) (take (g .vertices) doomed) (edgesIn text g) in
+    let q = edgesOf (g .signals) (next .0) (take (g .vertices) reached) (take (g .vertices) doomed) (edgesFrom text (namesIn text g) (g .signals) (drop i (take (g .edges) (g .arcs)))) in
+    (i ≤ g .edges) × Going (f .0) out₀ out (next₀ .0) (next .0) (p .gates) (q .gates) × (take i happy ++ q .happy ≡ p .happy) × (take i condemned ++ q .condemned ≡ p .condemned)
     × (length happy ≡ length happy₀) × (length condemned ≡ length condemned₀)
 
 abbrev μ-loop : tie.MeasureT-loop
-μ-loop out₀ f n text g reached doomed happy₀ condemned₀ edges next₀ i₀ out happy condemned next i = g .edges - i
+μ-loop out₀ f text g reached doomed happy₀ condemned₀ edges next₀ i₀ out happy condemned next i = g .edges - i
 
 loop-holds : tie.Need-loop-holds Inv-loop μ-loop
 unfolding edgesIn
@@ -34,36 +34,36 @@ put-edge-at-requires c κs =
     let l = c .before .before .loop in
     let h : l .i < a .g .edges = omega (arith, c .before .loop-test .taken) in
     let r = edge.edges-row (a .g .arcs) (a .g .edges) (omega (arith, p .0 .arcs, p .0 .edges)) (a .text .now) (namesIn (a .text .now) (a .g)) (a .g .signals) (l .i) h in
-    let t = edge.edges-step (a .g .signals) (take (a .g .vertices) (a .reached .now)) (take (a .g .vertices) (a .doomed .now)) (l .next) _ _ _ _ r refl in
+    let t = edge.edges-step (a .g .signals) (take (a .g .vertices) (a .reached .now)) (take (a .g .vertices) (a .doomed .now)) (l .next .0) _ _ _ _ r refl in
     (h, p .0, p .1, p .2, going-room (l .inv .1) (t .0) (p .5))
 
 mul-happy : tie.Need-mul-happy Inv-loop μ-loop
-mul-happy c = record { fits = omega (arith, c .before .before .before .before .loop-test .taken, c .before .before .before .before .before .before .before .before .before .before .before .before .pre .0 .edges) }
+mul-happy c = record { fits = omega (arith, c .before .before .before .before .before .loop-test .taken, c .before .before .before .before .before .before .before .before .before .before .before .before .before .pre .0 .edges) }
 
 slice-write-happy : tie.Need-slice-write-happy Inv-loop μ-loop
-slice-write-happy c = omega (arith, c .before .before .before .before .loop-test .taken, c .before .before .before .before .before .loop .inv .4, c .before .before .before .before .before .before .before .before .before .before .before .before .pre .3)
+slice-write-happy c = omega (arith, c .before .before .before .before .before .loop-test .taken, c .before .before .before .before .before .before .loop .inv .4, c .before .before .before .before .before .before .before .before .before .before .before .before .before .pre .3)
 
 mul-condemned : tie.Need-mul-condemned Inv-loop μ-loop
-mul-condemned c = record { fits = omega (arith, c .before .before .before .before .loop-test .taken, c .before .before .before .before .before .before .before .before .before .before .before .before .pre .0 .edges) }
+mul-condemned c = record { fits = omega (arith, c .before .before .before .before .before .loop-test .taken, c .before .before .before .before .before .before .before .before .before .before .before .before .before .pre .0 .edges) }
 
 slice-write-condemned : tie.Need-slice-write-condemned Inv-loop μ-loop
-slice-write-condemned c = omega (arith, c .before .before .before .before .loop-test .taken, c .before .before .before .before .before .loop .inv .5, c .before .before .before .before .before .before .before .before .before .before .before .before .pre .4)
+slice-write-condemned c = omega (arith, c .before .before .before .before .before .loop-test .taken, c .before .before .before .before .before .before .loop .inv .5, c .before .before .before .before .before .before .before .before .before .before .before .before .before .pre .4)
 
 add-i : tie.Need-add-i Inv-loop μ-loop
-add-i c = omega (arith, c .before .before .before .before .loop-test .taken, c .before .before .before .before .before .before .before .before .before .before .before .before .pre .0 .edges)
+add-i c = omega (arith, c .before .before .before .before .before .loop-test .taken, c .before .before .before .before .before .before .before .before .before .before .before .before .before .pre .0 .edges)
 
 loop-less : tie.Need-loop-less Inv-loop μ-loop
-loop-less c = omega (arith, c .before .before .before .before .loop-test .taken)
+loop-less c = omega (arith, c .before .before .before .before .before .loop-test .taken)
 
 loop-again : tie.Need-loop-again Inv-loop μ-loop
 loop-again c =
-    let a = c .before .before .before .before .before .before .before .before .before .before .before .before .args in
-    let p = c .before .before .before .before .before .before .before .before .before .before .before .before .pre in
-    let l = c .before .before .before .before .before .loop in
-    let h : l .i < a .g .edges = omega (arith, c .before .before .before .before .loop-test .taken) in
-    let b = c .before .before .put-edge-at .ensures in
+    let a = c .before .before .before .before .before .before .before .before .before .before .before .before .before .args in
+    let p = c .before .before .before .before .before .before .before .before .before .before .before .before .before .pre in
+    let l = c .before .before .before .before .before .before .loop in
+    let h : l .i < a .g .edges = omega (arith, c .before .before .before .before .before .loop-test .taken) in
+    let b = c .before .before .before .put-edge-at .ensures in
     let r = edge.edges-row (a .g .arcs) (a .g .edges) (omega (arith, p .0 .arcs, p .0 .edges)) (a .text .now) (namesIn (a .text .now) (a .g)) (a .g .signals) (l .i) h in
-    let t = edge.edges-step (a .g .signals) (take (a .g .vertices) (a .reached .now)) (take (a .g .vertices) (a .doomed .now)) (l .next) _ _ _ _ r (b .gates .count) in (
+    let t = edge.edges-step (a .g .signals) (take (a .g .vertices) (a .reached .now)) (take (a .g .vertices) (a .doomed .now)) (l .next .0) _ _ _ _ r (b .gates .count) in (
       omega (arith, h),
       go (l .inv .1) (t .0) (b .gates),
       laws.fill-step _ (l .i) _ _ _ _ _ (omega (arith, h, l .inv .4, p .3)) (l .inv .2) (t .1) (b .happy),
@@ -87,7 +87,7 @@ returns c =
     let p = c .before .before .before .before .before .before .before .before .pre in
     let l = c .before .loop in
     let r = edge.edges-none (a .g .arcs) (a .g .edges) (omega (arith, p .0 .arcs, p .0 .edges)) (a .text .now) (namesIn (a .text .now) (a .g)) (a .g .signals) (l .i) (c .loop-test .left) in
-    let t = edge.edges-end (a .g .signals) (take (a .g .vertices) (a .reached .now)) (take (a .g .vertices) (a .doomed .now)) (l .next) _ r in
+    let t = edge.edges-end (a .g .signals) (take (a .g .vertices) (a .reached .now)) (take (a .g .vertices) (a .doomed .now)) (l .next .0) _ r in
     let e = le-antisymm (l .inv .0) (c .loop-test .left) in
     record { gates = done (l .inv .1) (t .0); happy = laws.fill-end _ _ _ _ _ (l .inv .2) (t .1) e; condemned = laws.fill-end _ _ _ _ _ (l .inv .3) (t .2) e }
 

@@ -11,15 +11,21 @@ part-requires c κs = search needs
 look-up-requires : tie.Need-look-up-requires
 look-up-requires c κs = search needs
 
-add-literal : tie.Need-add-literal
-add-literal c = let a = c .before .before .before .before .before .args in omega (arith, found-few (a .text .now) (a .starts .now) (a .total) _ (c .look-up .ensures))
+after-requires : tie.Need-after-requires
+after-requires c κs = let a = c .before .before .before .before .before .args in omega (arith, found-few (a .text .now) (a .starts .now) (a .total) _ (c .look-up .ensures))
 
 literal-requires : tie.Need-literal-requires
-literal-requires c κs = let a = c .before .before .before .before .before .args in omega (arith, found-few (a .text .now) (a .starts .now) (a .total) _ (c .look-up .ensures))
+literal-requires c κs = let a = c .before .before .before .before .before .before .args in omega (arith, found-few (a .text .now) (a .starts .now) (a .total) _ (c .before .look-up .ensures))
 
 returns : tie.Need-returns
-returns c = name-made _ _ _ (c .before .before .part .ensures) (c .before .look-up .ensures) (c .literal .ensures)
+returns c = name-made _ _ _ (c .before .before .before .part .ensures) (c .before .before .look-up .ensures) (rw (c .before .after .ensures) at (c .literal .ensures))
 
 pub name-literal-spec : {M : Type 1} → statement M
 name-literal-spec =
-    tie.close (tie.spec part-requires look-up-requires add-literal literal-requires returns)
+    tie.close
+    (tie.spec
+    part-requires
+    look-up-requires
+    after-requires
+    literal-requires
+    returns)

@@ -12,10 +12,10 @@ use Rattle.builder.proofs.formulas.put_words.Statement.{statement}
 use Rattle.builder.proofs.formulas.put_words.Tie as tie
 
 abbrev Inv-loop : tie.InvT-loop
-Inv-loop out₀ f n text starts total field words count stack₀ height₀ next₀ i₀ out stack height next i = (i ≤ count) × Running (listed text starts total) field (take count words) f out₀ n out stack next height i
+Inv-loop out₀ f text starts total field words count stack₀ height₀ next₀ i₀ out stack height next i = (i ≤ count) × Running (listed text starts total) field (take count words) (f .0) out₀ (next₀ .0) out stack (next .0) height i
 
 abbrev μ-loop : tie.MeasureT-loop
-μ-loop out₀ f n text starts total field words count stack₀ height₀ next₀ i₀ out stack height next i = count - i
+μ-loop out₀ f text starts total field words count stack₀ height₀ next₀ i₀ out stack height next i = count - i
 
 loop-holds : tie.Need-loop-holds Inv-loop μ-loop
 loop-holds c =
@@ -85,22 +85,22 @@ loop-less c = search needs
 
 loop-again : tie.Need-loop-again Inv-loop μ-loop
 loop-again c =
-    let t = c .before .before .before .before .before .before in
+    let t = c .before .before .before .before .before .before .before in
     let v = t .before .loop .inv .1 in
     let s = t .before .before .before .before .before .before .before in
     let e : length (take (s .args .count) (s .args .words .now)) ≡ s .args .count = length-take-le (s .args .count) (s .args .words .now) (s .pre .2) in
     let l : t .before .loop .i < length (take (s .args .count) (s .args .words .now)) = rw e (t .loop-test .taken) in
-    let m = c .before .before .before .put-word .ensures in
-    (omega arith, running-step _ _ _ _ _ _ v l (getD-take (s .args .count) (s .args .words .now) (t .before .loop .i) 0 (t .loop-test .taken)) (rw e (s .pre .1)) (m .gates) (m .out) (c .taken-by .ensures))
+    let m = c .before .before .before .before .put-word .ensures in
+    (omega arith, running-step _ _ _ _ _ _ v l (getD-take (s .args .count) (s .args .words .now) (t .before .loop .i) 0 (t .loop-test .taken)) (rw e (s .pre .1)) (m .gates) (m .out) (c .before .taken-by .ensures))
 
-sub-t32 : tie.Need-sub-t32 Inv-loop μ-loop
-sub-t32 c = search needs
+sub-top : tie.Need-sub-top Inv-loop μ-loop
+sub-top c = search needs
 
-mul-t33 : tie.Need-mul-t33 Inv-loop μ-loop
-mul-t33 c = search needs
+mul-top : tie.Need-mul-top Inv-loop μ-loop
+mul-top c = search needs
 
-array-read-t36 : tie.Need-array-read-t36 Inv-loop μ-loop
-array-read-t36 c = search needs
+array-read-top : tie.Need-array-read-top Inv-loop μ-loop
+array-read-top c = search needs
 
 same-length : tie.Need-same-length Inv-loop μ-loop
 same-length c = going-kept (c .before .loop .inv .1 .going)
@@ -137,8 +137,8 @@ put-words-spec =
     add-i
     loop-less
     loop-again
-    sub-t32
-    mul-t33
-    array-read-t36
+    sub-top
+    mul-top
+    array-read-top
     same-length
     returns)

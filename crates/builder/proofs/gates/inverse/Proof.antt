@@ -28,7 +28,7 @@ unfolding inv
 returns c =
     let e = c .before .before .variable .ensures in
     let i = c .before .is-inverted .ensures in
-    rw (e, i) at (made _ _ (half (c .before .before .before .args .lit) (omega arith) e) (c .literal .ensures))
+    rw (e, i) at (made _ _ (half (c .before .before .before .args .l .0) (omega arith) e) (c .literal .ensures))
 
 pub inverse-spec : {M : Type 1} → statement M
 inverse-spec = tie.close (tie.spec variable-requires is-inverted-requires literal-requires returns)

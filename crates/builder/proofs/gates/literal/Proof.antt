@@ -5,9 +5,6 @@ use borrow.Author.Needs.{needs}
 use Rattle.builder.proofs.gates.literal.Statement.{statement}
 use Rattle.builder.proofs.gates.literal.Tie as tie
 
-cast-t4 : tie.Need-cast-t4
-cast-t4 c = search needs
-
 literal-requires : tie.Need-literal-requires
 literal-requires c κs = search needs
 
@@ -15,4 +12,4 @@ returns : tie.Need-returns
 returns c = made _ _ (omega arith) (c .literal .ensures)
 
 pub literal-spec : {M : Type 1} → statement M
-literal-spec = tie.close (tie.spec cast-t4 literal-requires returns)
+literal-spec = tie.close (tie.spec literal-requires returns)

@@ -6,8 +6,8 @@ use borrow.Author.Needs.{needs}
 use Rattle.builder.proofs.gates.put_gate.Statement.{statement}
 use Rattle.builder.proofs.gates.put_gate.Tie as tie
 
-sub-at : tie.Need-sub-at
-sub-at c = search needs
+distance-requires : tie.Need-distance-requires
+distance-requires c κs = search needs
 
 mul-at : tie.Need-mul-at
 mul-at c = search needs
@@ -27,33 +27,33 @@ smaller-requires c κs = search needs
 store-requires-2 : tie.Need-store-requires-2
 store-requires-2 c κs = search needs
 
-add-result : tie.Need-add-result
-add-result c = search needs
+after-requires : tie.Need-after-requires
+after-requires c κs = search needs
 
 same-length : tie.Need-same-length
 same-length c = search needs
 
 returns : tie.Need-returns
 returns c =
-    let second = c .before .before .store2 .ensures in
-    let first = c .before .before .before .before .before .before .before .store .ensures in
+    let second = c .before .before .before .store2 .ensures in
+    let first = c .before .before .before .before .before .before .before .before .store .ensures in
     record {
       from = omega arith;
       count = omega arith;
-      words = second ∙ rw (first, c .before .before .before .smaller .ensures, c .before .before .before .before .before .before .before .before .larger .ensures, add-one);
+      words = second ∙ rw (first, c .before .before .before .before .smaller .ensures, c .before .before .before .before .before .before .before .before .before .larger .ensures, c .before .before .before .before .before .before .before .before .before .before .before .distance .ensures, add-one);
     }
 
 pub put-gate-spec : {M : Type 1} → statement M
 put-gate-spec =
     tie.close
     (tie.spec
-    sub-at
+    distance-requires
     mul-at
     larger-requires
     store-requires
     add-store
     smaller-requires
     store-requires-2
-    add-result
+    after-requires
     same-length
     returns)

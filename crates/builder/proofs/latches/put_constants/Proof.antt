@@ -12,7 +12,7 @@ use Rattle.builder.proofs.latches.put_constants.Statement.{statement}
 use Rattle.builder.proofs.latches.put_constants.Tie as tie
 
 abbrev Inv-loop : tie.InvT-loop
-Inv-loop net₀ at l count p₀ i₀ net p i = (i ≤ count) × (p ≡ at + 2 * i) × (sets net p (constantLatches (l + i) (count - i)) ≡ sets net₀ at (constantLatches l count)) × (length net ≡ length net₀)
+Inv-loop net₀ at l count p₀ i₀ net p i = (i ≤ count) × (p ≡ at + 2 * i) × (sets net p (constantLatches (l .0 + i) (count - i)) ≡ sets net₀ at (constantLatches (l .0) count)) × (length net ≡ length net₀)
 
 abbrev μ-loop : tie.MeasureT-loop
 μ-loop net₀ at l count p₀ i₀ net p i = count - i
@@ -20,8 +20,8 @@ abbrev μ-loop : tie.MeasureT-loop
 loop-holds : tie.Need-loop-holds Inv-loop μ-loop
 loop-holds c = (omega arith, omega arith, rw (add-zero, sub-zero), refl)
 
-add-literal : tie.Need-add-literal Inv-loop μ-loop
-add-literal c = search needs
+after-requires : tie.Need-after-requires Inv-loop μ-loop
+after-requires c κs = search needs
 
 literal-requires : tie.Need-literal-requires Inv-loop μ-loop
 literal-requires c κs = search needs
@@ -31,12 +31,6 @@ mul-net c = search needs
 
 slice-write-net : tie.Need-slice-write-net Inv-loop μ-loop
 slice-write-net c = search needs
-
-add-literal-2 : tie.Need-add-literal-2 Inv-loop μ-loop
-add-literal-2 c = search needs
-
-literal-requires-2 : tie.Need-literal-requires-2 Inv-loop μ-loop
-literal-requires-2 c κs = search needs
 
 add-net : tie.Need-add-net Inv-loop μ-loop
 add-net c = search needs
@@ -61,8 +55,8 @@ loop-again c =
     let l = c .before .before .before .loop in (
       omega arith,
       omega arith,
-      laws.own-step _ _ _ (c .before .before .before .before .before .args .l) (l .i) (c .before .before .before .before .before .args .count) _ _ (c .before .before .loop-test .taken)
-          (c .before .literal .ensures) (c .literal2 .ensures) (l .inv .2),
+      laws.own-step _ _ _ (c .before .before .before .before .before .args .l .0) (l .i) (c .before .before .before .before .before .args .count) _ (c .before .before .loop-test .taken)
+          (rw (c .before .after .ensures) at (c .literal .ensures)) (l .inv .2),
       rw (length-set, length-set) (l .inv .3),
     )
 
@@ -81,12 +75,10 @@ put-constants-spec =
     Inv-loop
     μ-loop
     loop-holds
-    add-literal
+    after-requires
     literal-requires
     mul-net
     slice-write-net
-    add-literal-2
-    literal-requires-2
     add-net
     mul-net-2
     slice-write-net-2

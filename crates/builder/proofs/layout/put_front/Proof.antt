@@ -19,8 +19,8 @@ add-put-header-2 c = search needs
 put-header-requires : tie.Need-put-header-requires
 put-header-requires c κs = search needs
 
-add-put-constants : tie.Need-add-put-constants
-add-put-constants c = search needs
+after-requires : tie.Need-after-requires
+after-requires c κs = search needs
 
 put-constants-requires : tie.Need-put-constants-requires
 put-constants-requires c κs = search needs
@@ -39,13 +39,13 @@ same-length c = rw length-set (omega arith)
 
 returns : tie.Need-returns
 returns c =
-    let a = c .before .before .before .before .before .before .before .before .before .before .before .before .before .before .before .args in
-    let p = c .before .before .before .before .before .before .before .before .before .before .before .before .before .before .before .pre in
-    let h = c .before .before .before .before .before .before .before .before .before .before .put-header .ensures in
+    let a = c .before .before .before .before .before .before .before .before .before .before .before .before .before .before .before .before .args in
+    let p = c .before .before .before .before .before .before .before .before .before .before .before .before .before .before .before .before .pre in
+    let h = c .before .before .before .before .before .before .before .before .before .before .before .put-header .ensures in
     let k = c .before .before .before .before .before .before .put-constants .ensures in
     let l = c .before .before .put-latches .ensures in
-    rw (l .0, k .0, h)
-    (layout.front-all (take (a .edges) (a .happy .now)) (take (a .edges) (a .condemned .now)) (a .signals) (a .constants) (a .edges) (a .gates) (a .output)
+    rw (l .0, k .0, c .before .before .before .before .before .before .before .after .ensures, h)
+    (layout.front-all (take (a .edges) (a .happy .now)) (take (a .edges) (a .condemned .now)) (a .signals) (a .constants) (a .edges) (a .gates) (a .output .0)
     (length-take-le (a .edges) (a .happy .now) (p .2)) (length-take-le (a .edges) (a .condemned .now) (p .3)) (a .net .now) _ _ (k .1) (l .1))
 
 pub put-front-spec : {M : Type 1} → statement M
@@ -56,7 +56,7 @@ put-front-spec =
     mul-put-header
     add-put-header-2
     put-header-requires
-    add-put-constants
+    after-requires
     put-constants-requires
     put-latches-requires
     mul-net

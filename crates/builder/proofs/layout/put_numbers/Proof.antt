@@ -1,23 +1,23 @@
 -- `put_numbers` meets its contract. Assumes nothing.
-use mathlib.Core.Path.{_∙_}
+use mathlib.Core.Path.{ap, _∙_}
+use Prim.Native.Nat.{ℕ, _+_, _*_}
 use native.Mathlib.Omega.{arith}
 use borrow.Author.Needs.{needs}
-use Rattle.builder.specs.Private.Monitor.{gatesIn}
 use Rattle.builder.proofs.LayoutLaws as layout
 use Rattle.builder.proofs.layout.put_numbers.Statement.{statement}
 use Rattle.builder.proofs.layout.put_numbers.Tie as tie
 
-add-latch : tie.Need-add-latch
-add-latch c = search needs
+after-requires : tie.Need-after-requires
+after-requires c κs = search needs
 
-add-latch-2 : tie.Need-add-latch-2
-add-latch-2 c = search needs
+after-requires-2 : tie.Need-after-requires-2
+after-requires-2 c κs = search needs
 
-mul-gate : tie.Need-mul-gate
-mul-gate c = search needs
+mul-after : tie.Need-mul-after
+mul-after c = search needs
 
-add-gate : tie.Need-add-gate
-add-gate c = search needs
+after-requires-3 : tie.Need-after-requires-3
+after-requires-3 c κs = search needs
 
 mul-base : tie.Need-mul-base
 mul-base c = search needs
@@ -35,10 +35,14 @@ mul-put-gates : tie.Need-mul-put-gates
 mul-put-gates c = search needs
 
 sub-put-gates : tie.Need-sub-put-gates
-sub-put-gates c = omega (arith, layout.numbers-length (c .before .before .before .before .before .before .before .args .text .now) (c .before .before .before .before .before .before .before .args .g) (c .before .before .before .before .before .before .before .pre .0), c .before .before .before .before .before .before .before .pre .1)
+sub-put-gates c =
+    let s = c .before .before .before .before .before .before .before .before in
+    omega (arith, layout.numbers-length (s .args .text .now) (s .args .g) (s .pre .0), s .pre .1)
 
 part-put-gates-start : tie.Need-part-put-gates-start
-part-put-gates-start c = omega (arith, layout.numbers-length (c .before .before .before .before .before .before .before .args .text .now) (c .before .before .before .before .before .before .before .args .g) (c .before .before .before .before .before .before .before .pre .0), c .before .before .before .before .before .before .before .pre .1)
+part-put-gates-start c =
+    let s = c .before .before .before .before .before .before .before .before in
+    omega (arith, layout.numbers-length (s .args .text .now) (s .args .g) (s .pre .0), s .pre .1)
 
 part-put-gates-end : tie.Need-part-put-gates-end
 part-put-gates-end c = search needs
@@ -51,12 +55,15 @@ slice-aggregate-put-gates-2 c = search needs
 
 put-gates-requires : tie.Need-put-gates-requires
 put-gates-requires c κs =
-    let a = c .before .before .before .before .before .before .before .before .before .before .args in
-    let p = c .before .before .before .before .before .before .before .before .before .before .pre in
-    (p .0, p .0 .edges, p .0 .edges, omega (arith, p .2), layout.room (a .text .now) (a .g) (p .0) (a .net .now) (p .1) (p .2))
+    let k = c .before .before .before .before .before in
+    let a = k .before .before .before .before .before .before .args in
+    let p = k .before .before .before .before .before .before .pre in
+    let e = k .before .before .after2 .ensures ∙ ap (λ (v : ℕ). v + a .g .constants) (k .before .before .before .after .ensures) in
+    let f = k .after3 .ensures ∙ ap (λ (v : ℕ). v + 2 * a .g .edges) e in
+    rw (f, e) (p .0, p .0 .edges, p .0 .edges, omega (arith, p .2), layout.room (a .text .now) (a .g) (p .0) (a .net .now) (p .1) (p .2))
 
-sub-put-front : tie.Need-sub-put-front
-sub-put-front c = search needs
+distance-requires : tie.Need-distance-requires
+distance-requires c κs = search needs
 
 slice-aggregate-put-front : tie.Need-slice-aggregate-put-front
 slice-aggregate-put-front c = search needs
@@ -65,30 +72,37 @@ slice-aggregate-put-front-2 : tie.Need-slice-aggregate-put-front-2
 slice-aggregate-put-front-2 c = search needs
 
 put-front-requires : tie.Need-put-front-requires
-unfolding gatesIn
 put-front-requires c κs =
-    let a = c .before .before .before .before .before .before .before .before .before .before .before .before .before .before .before .before .before .before .before .args in
-    let p = c .before .before .before .before .before .before .before .before .before .before .before .before .before .before .before .before .before .before .before .pre in
-    let m = c .before .before .before .before .before .before .before .before .put-gates .ensures in
-    (layout.still (a .text .now) (a .g) (p .0) (a .net .now) (p .1) m, omega (arith, m .gates .count, p .2), omega (arith, p .0 .edges), omega (arith, p .0 .edges))
+    let k = c .before .before .before .before .before .before .before .before .before .before .before .before .before .before in
+    let a = k .before .before .before .before .before .before .args in
+    let p = k .before .before .before .before .before .before .pre in
+    let e = k .before .before .after2 .ensures ∙ ap (λ (v : ℕ). v + a .g .constants) (k .before .before .before .after .ensures) in
+    let f = k .after3 .ensures ∙ ap (λ (v : ℕ). v + 2 * a .g .edges) e in
+    let m = rw (f, e) at (c .before .before .before .before .before .before .before .before .put-gates .ensures) in
+    (layout.still (a .text .now) (a .g) (p .0) (a .net .now) (p .1) m, omega (arith, layout.made (a .text .now) (a .g) f m (c .before .before .before .distance .ensures), p .2), omega (arith, p .0 .edges), omega (arith, p .0 .edges))
 
 same-length : tie.Need-same-length
 same-length c = search needs
 
 returns : tie.Need-returns
 returns c =
-    let a = c .before .before .before .before .before .before .before .before .before .before .before .before .before .before .before .before .before .before .before .before .before .before .args in
-    let p = c .before .before .before .before .before .before .before .before .before .before .before .before .before .before .before .before .before .before .before .before .before .before .pre in
-    c .before .before .put-front .ensures ∙ layout.stored (a .text .now) (a .g) (p .0) (a .net .now) (p .1) (c .before .before .before .before .before .before .before .before .before .before .before .put-gates .ensures)
+    let k = c .before .before .before .before .before .before .before .before .before .before .before .before .before .before .before .before .before in
+    let a = k .before .before .before .before .before .before .args in
+    let p = k .before .before .before .before .before .before .pre in
+    let e = k .before .before .after2 .ensures ∙ ap (λ (v : ℕ). v + a .g .constants) (k .before .before .before .after .ensures) in
+    let f = k .after3 .ensures ∙ ap (λ (v : ℕ). v + 2 * a .g .edges) e in
+    let m = rw (f, e) at (c .before .before .before .before .before .before .before .before .before .before .before .put-gates .ensures) in
+    let n = layout.made (a .text .now) (a .g) f m (c .before .before .before .before .before .before .distance .ensures) in
+    (c .before .before .put-front .ensures ∙ layout.stored (a .text .now) (a .g) (p .0) (a .net .now) (p .1) m n, n)
 
 pub put-numbers-spec : {M : Type 1} → statement M
 put-numbers-spec =
     tie.close
     (tie.spec
-    add-latch
-    add-latch-2
-    mul-gate
-    add-gate
+    after-requires
+    after-requires-2
+    mul-after
+    after-requires-3
     mul-base
     add-base
     mul-base-2
@@ -100,7 +114,7 @@ put-numbers-spec =
     slice-aggregate-put-gates
     slice-aggregate-put-gates-2
     put-gates-requires
-    sub-put-front
+    distance-requires
     slice-aggregate-put-front
     slice-aggregate-put-front-2
     put-front-requires

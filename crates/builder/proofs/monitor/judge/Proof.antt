@@ -14,7 +14,7 @@ put-edges-requires : tie.Need-put-edges-requires
 put-edges-requires c κs =
     let a = c .before .before .before .before .before .before .before .before .before .before .args in
     let p = c .before .before .before .before .before .before .before .before .before .before .pre in
-    let t = builds.judge-parts (a .g .signals) (take (a .g .vertices) (a .reached .now)) (take (a .g .vertices) (a .doomed .now)) (take (a .g .edges) (a .marks .now)) (edgesIn (a .text .now) (a .g)) (a .n) _ refl in
+    let t = builds.judge-parts (a .g .signals) (take (a .g .vertices) (a .reached .now)) (take (a .g .vertices) (a .doomed .now)) (take (a .g .edges) (a .marks .now)) (edgesIn (a .text .now) (a .g)) (a .n .0) _ refl in
     (p .0, p .1, p .2, p .3, p .4, room-first t (p .6))
 
 put-accept-requires : tie.Need-put-accept-requires
@@ -22,7 +22,7 @@ put-accept-requires c κs =
     let a = c .before .before .before .before .before .before .before .before .before .before .before .before .before .before .before .before .before .before .before .args in
     let p = c .before .before .before .before .before .before .before .before .before .before .before .before .before .before .before .before .before .before .before .pre in
     let m = c .before .before .before .before .before .before .before .before .put-edges .ensures in
-    let t = builds.judge-parts (a .g .signals) (take (a .g .vertices) (a .reached .now)) (take (a .g .vertices) (a .doomed .now)) (take (a .g .edges) (a .marks .now)) (edgesIn (a .text .now) (a .g)) (a .n) _ (m .gates .count) in
+    let t = builds.judge-parts (a .g .signals) (take (a .g .vertices) (a .reached .now)) (take (a .g .vertices) (a .doomed .now)) (take (a .g .edges) (a .marks .now)) (edgesIn (a .text .now) (a .g)) (a .n .0) _ (m .gates .count) in
     (rw (m .condemned) (room-second t (p .6) (m .gates)), p .5, omega (arith, p .4))
 
 same-length : tie.Need-same-length
@@ -38,8 +38,8 @@ returns : tie.Need-returns
 returns c =
     let a = c .before .before .before .before .before .before .before .before .before .before .before .before .before .before .before .before .before .before .before .before .before .before .args in
     let m = c .before .before .before .before .before .before .before .before .before .before .before .put-edges .ensures in
-    let t = builds.judge-parts (a .g .signals) (take (a .g .vertices) (a .reached .now)) (take (a .g .vertices) (a .doomed .now)) (take (a .g .edges) (a .marks .now)) (edgesIn (a .text .now) (a .g)) (a .n) _ (m .gates .count) in
-    let q = builds.judge-accept (a .g .signals) (take (a .g .vertices) (a .reached .now)) (take (a .g .vertices) (a .doomed .now)) (take (a .g .edges) (a .marks .now)) (edgesIn (a .text .now) (a .g)) (a .n) _ (m .gates .count) in
+    let t = builds.judge-parts (a .g .signals) (take (a .g .vertices) (a .reached .now)) (take (a .g .vertices) (a .doomed .now)) (take (a .g .edges) (a .marks .now)) (edgesIn (a .text .now) (a .g)) (a .n .0) _ (m .gates .count) in
+    let q = builds.judge-accept (a .g .signals) (take (a .g .vertices) (a .reached .now)) (take (a .g .vertices) (a .doomed .now)) (take (a .g .edges) (a .marks .now)) (edgesIn (a .text .now) (a .g)) (a .n .0) _ (m .gates .count) in
     let k = rw (m .condemned) at (c .before .before .put-accept .ensures) in
     record {
       gates = whole-of t (m .gates) (k .0);

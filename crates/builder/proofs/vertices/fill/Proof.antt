@@ -12,19 +12,19 @@ use Rattle.builder.proofs.vertices.fill.Statement.{statement}
 use Rattle.builder.proofs.vertices.fill.Tie as tie
 
 abbrev Inv-loop : tie.InvT-loop
-Inv-loop lits₀ n count i₀ lits i = (i ≤ count) × (take i lits ++ everyOther (n + 2 * i) (count - i) ≡ everyOther n count) × (length lits ≡ length lits₀)
+Inv-loop lits₀ n count i₀ lits i = (i ≤ count) × (take i lits ++ everyOther (n .0 + 2 * i) (count - i) ≡ everyOther (n .0) count) × (length lits ≡ length lits₀)
 
 abbrev μ-loop : tie.MeasureT-loop
 μ-loop lits₀ n count i₀ lits i = count - i
 
 loop-holds : tie.Need-loop-holds Inv-loop μ-loop
-loop-holds c = (omega arith, laws.every-begin (c .before .args .n) (c .before .args .count), refl)
+loop-holds c = (omega arith, laws.every-begin (c .before .args .n .0) (c .before .args .count), refl)
 
-mul-literal : tie.Need-mul-literal Inv-loop μ-loop
-mul-literal c = search needs
+mul-after : tie.Need-mul-after Inv-loop μ-loop
+mul-after c = search needs
 
-add-literal : tie.Need-add-literal Inv-loop μ-loop
-add-literal c = search needs
+after-requires : tie.Need-after-requires Inv-loop μ-loop
+after-requires c κs = search needs
 
 literal-requires : tie.Need-literal-requires Inv-loop μ-loop
 literal-requires c κs = search needs
@@ -42,7 +42,7 @@ loop-less : tie.Need-loop-less Inv-loop μ-loop
 loop-less c = search needs
 
 loop-again : tie.Need-loop-again Inv-loop μ-loop
-loop-again c = (search needs, laws.fill-step _ (c .before .before .loop .i) _ _ _ _ _ (omega arith) (c .before .before .loop .inv .1) (laws.every-step _ _ _ (c .before .loop-test .taken)) (c .literal .ensures), rw length-set (c .before .before .loop .inv .2))
+loop-again c = (search needs, laws.fill-step _ (c .before .before .before .loop .i) _ _ _ _ _ (omega arith) (c .before .before .before .loop .inv .1) (laws.every-step _ _ _ (c .before .before .loop-test .taken)) (rw (c .before .after .ensures) at (c .literal .ensures)), rw length-set (c .before .before .before .loop .inv .2))
 
 same-length : tie.Need-same-length Inv-loop μ-loop
 same-length c = search needs
@@ -57,8 +57,8 @@ fill-spec =
     Inv-loop
     μ-loop
     loop-holds
-    mul-literal
-    add-literal
+    mul-after
+    after-requires
     literal-requires
     mul-lits
     slice-write-lits

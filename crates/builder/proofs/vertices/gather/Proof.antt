@@ -17,34 +17,34 @@ fill-requires : tie.Need-fill-requires
 fill-requires c κs =
     let a = c .before .before .before .before .before .args in
     let p = c .before .before .before .before .before .pre in
-    let t = builds.gather-parts (take (a .edges) (a .to .now)) (a .vertices) (a .edges) (a .l) (a .f) _ refl in
+    let t = builds.gather-parts (take (a .edges) (a .to .now)) (a .vertices) (a .edges) (a .l .0) (a .f .0) _ refl in
     let q = room-first t (p .0) in
-    let k = builds.mask-length (2 * a .edges) (a .l) in
+    let k = builds.mask-length (2 * a .edges) (a .l .0) in
     (omega arith, omega (arith, q .few, k))
 
 slice-aggregate-fill-2 : tie.Need-slice-aggregate-fill-2
 slice-aggregate-fill-2 c = search needs
 
-add-fill : tie.Need-add-fill
-add-fill c = search needs
+after-requires : tie.Need-after-requires
+after-requires c κs = omega (arith, c .before .before .before .before .before .before .before .before .pre .0 .few)
 
 fill-requires-2 : tie.Need-fill-requires-2
 fill-requires-2 c κs =
-    let a = c .before .before .before .before .before .before .before .before .args in
-    let p = c .before .before .before .before .before .before .before .before .pre in
-    let t = builds.gather-parts (take (a .edges) (a .to .now)) (a .vertices) (a .edges) (a .l) (a .f) _ refl in
+    let a = c .before .before .before .before .before .before .before .before .before .args in
+    let p = c .before .before .before .before .before .before .before .before .before .pre in
+    let t = builds.gather-parts (take (a .edges) (a .to .now)) (a .vertices) (a .edges) (a .l .0) (a .f .0) _ refl in
     let q = room-first t (p .0) in
-    let k = builds.mask-length (2 * a .edges) (a .l) in
-    (omega arith, omega (arith, q .few, k))
+    let k = builds.mask-length (2 * a .edges) (a .l .0) in
+    (omega arith, omega (arith, q .few, k, c .after .ensures))
 
 mul-put-masks : tie.Need-mul-put-masks
 mul-put-masks c = search needs
 
 put-masks-requires : tie.Need-put-masks-requires
 put-masks-requires c κs =
-    let a = c .before .before .before .before .before .before .before .before .before .before .before .args in
-    let p = c .before .before .before .before .before .before .before .before .before .before .before .pre in
-    let t = builds.gather-parts (take (a .edges) (a .to .now)) (a .vertices) (a .edges) (a .l) (a .f) _ refl in
+    let a = c .before .before .before .before .before .before .before .before .before .before .before .before .args in
+    let p = c .before .before .before .before .before .before .before .before .before .before .before .before .pre in
+    let t = builds.gather-parts (take (a .edges) (a .to .now)) (a .vertices) (a .edges) (a .l .0) (a .f .0) _ refl in
     (room-first t (p .0), p .1)
 
 slice-aggregate-put-vertices : tie.Need-slice-aggregate-put-vertices
@@ -56,10 +56,10 @@ slice-aggregate-put-vertices-2 c = search needs
 put-vertices-requires : tie.Need-put-vertices-requires
 put-vertices-requires c κs =
     let m = c .before .before .before .before .before .before .before .put-masks .ensures in
-    let a = c .before .before .before .before .before .before .before .before .before .before .before .before .before .before .before .before .before .before .before .args in
-    let p = c .before .before .before .before .before .before .before .before .before .before .before .before .before .before .before .before .before .before .before .pre in
-    let t = builds.gather-parts (take (a .edges) (a .to .now)) (a .vertices) (a .edges) (a .l) (a .f) _ (m .count) in
-    rw (c .before .before .before .before .before .before .before .before .before .before .before .before .before .fill .ensures, c .before .before .before .before .before .before .before .before .before .before .fill2 .ensures) (room-second t (p .0) m, p .3, omega arith, omega arith, p .4, p .5)
+    let a = c .before .before .before .before .before .before .before .before .before .before .before .before .before .before .before .before .before .before .before .before .args in
+    let p = c .before .before .before .before .before .before .before .before .before .before .before .before .before .before .before .before .before .before .before .before .pre in
+    let t = builds.gather-parts (take (a .edges) (a .to .now)) (a .vertices) (a .edges) (a .l .0) (a .f .0) _ (m .count) in
+    rw (c .before .before .before .before .before .before .before .before .before .before .before .before .before .before .fill .ensures, rw (c .before .before .before .before .before .before .before .before .before .before .before .after .ensures) at (c .before .before .before .before .before .before .before .before .before .before .fill2 .ensures)) (room-second t (p .0) m, p .3, omega arith, omega arith, p .4, p .5)
 
 same-length : tie.Need-same-length
 same-length c = search needs
@@ -73,11 +73,11 @@ same-length-3 c = search needs
 returns : tie.Need-returns
 returns c =
     let m = c .before .before .before .before .before .before .before .before .before .before .before .before .before .before .put-masks .ensures in
-    let a = c .before .before .before .before .before .before .before .before .before .before .before .before .before .before .before .before .before .before .before .before .before .before .before .before .before .before .args in
-    let p = c .before .before .before .before .before .before .before .before .before .before .before .before .before .before .before .before .before .before .before .before .before .before .before .before .before .before .pre in
-    let t = builds.gather-parts (take (a .edges) (a .to .now)) (a .vertices) (a .edges) (a .l) (a .f) _ (m .count) in
-    let g = builds.gather-is (take (a .edges) (a .to .now)) (a .vertices) (a .edges) (a .l) (a .f) _ (m .count) in
-    let v = rw (c .before .before .before .before .before .before .before .before .before .before .before .before .before .before .before .before .before .before .before .before .fill .ensures, c .before .before .before .before .before .before .before .before .before .before .before .before .before .before .before .before .before .fill2 .ensures) at (c .before .before .before .before .before .before .put-vertices .ensures) in
+    let a = c .before .before .before .before .before .before .before .before .before .before .before .before .before .before .before .before .before .before .before .before .before .before .before .before .before .before .before .args in
+    let p = c .before .before .before .before .before .before .before .before .before .before .before .before .before .before .before .before .before .before .before .before .before .before .before .before .before .before .before .pre in
+    let t = builds.gather-parts (take (a .edges) (a .to .now)) (a .vertices) (a .edges) (a .l .0) (a .f .0) _ (m .count) in
+    let g = builds.gather-is (take (a .edges) (a .to .now)) (a .vertices) (a .edges) (a .l .0) (a .f .0) _ (m .count) in
+    let v = rw (c .before .before .before .before .before .before .before .before .before .before .before .before .before .before .before .before .before .before .before .before .before .fill .ensures, rw (c .before .before .before .before .before .before .before .before .before .before .before .before .before .before .before .before .before .before .after .ensures) at (c .before .before .before .before .before .before .before .before .before .before .before .before .before .before .before .before .before .fill2 .ensures)) at (c .before .before .before .before .before .before .put-vertices .ensures) in
     (whole-of t m (v .0), v .1 ∙ sym (ap (λ (z : Gathers). z .happy) g), v .2 ∙ sym (ap (λ (z : Gathers). z .condemned) g))
 
 pub gather-spec : {M : Type 1} → statement M
@@ -87,7 +87,7 @@ gather-spec =
     slice-aggregate-fill
     fill-requires
     slice-aggregate-fill-2
-    add-fill
+    after-requires
     fill-requires-2
     mul-put-masks
     put-masks-requires

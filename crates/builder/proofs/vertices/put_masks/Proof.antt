@@ -10,27 +10,27 @@ use Rattle.builder.proofs.vertices.put_masks.Statement.{statement}
 use Rattle.builder.proofs.vertices.put_masks.Tie as tie
 
 abbrev Inv-loop : tie.InvT-loop
-Inv-loop out₀ f n l count running next₀ i₀ out next i = (i ≤ count) × Going f out₀ out n next (maskGates l count) (maskGates (l + i) (count - i))
+Inv-loop out₀ f l count running next₀ i₀ out next i = (i ≤ count) × Going (f .0) out₀ out (next₀ .0) (next .0) (maskGates (l .0) count) (maskGates (l .0 + i) (count - i))
 
 abbrev μ-loop : tie.MeasureT-loop
-μ-loop out₀ f n l count running next₀ i₀ out next i = count - i
+μ-loop out₀ f l count running next₀ i₀ out next i = count - i
 
 literal-requires : tie.Need-literal-requires Inv-loop μ-loop
 literal-requires c κs = search needs
 
 loop-holds : tie.Need-loop-holds Inv-loop μ-loop
-loop-holds c = (omega arith, laws.mask-begin _ _ _ (c .before .before .args .l) (c .before .before .args .count) (c .before .before .pre .0 .from))
+loop-holds c = (omega arith, laws.mask-begin _ _ _ (c .before .before .args .l .0) (c .before .before .args .count) (c .before .before .pre .0 .from))
 
-add-literal : tie.Need-add-literal Inv-loop μ-loop
-add-literal c = search needs
+after-requires : tie.Need-after-requires Inv-loop μ-loop
+after-requires c κs = search needs
 
 literal-requires-2 : tie.Need-literal-requires-2 Inv-loop μ-loop
 literal-requires-2 c κs = search needs
 
 put-gate-requires : tie.Need-put-gate-requires Inv-loop μ-loop
 put-gate-requires c κs =
-    let a = c .before .before .before .before .before .before .args in
-    going-room (c .before .before .before .loop .inv .1) (laws.mask-step (a .l) (c .before .before .before .loop .i) (a .count) (c .before .before .loop-test .taken)) (c .before .before .before .before .before .before .pre .0)
+    let a = c .before .before .before .before .before .before .before .args in
+    going-room (c .before .before .before .before .loop .inv .1) (laws.mask-step (a .l .0) (c .before .before .before .before .loop .i) (a .count) (c .before .before .before .loop-test .taken)) (c .before .before .before .before .before .before .before .pre .0)
 
 add-i : tie.Need-add-i Inv-loop μ-loop
 add-i c = search needs
@@ -40,8 +40,8 @@ loop-less c = search needs
 
 loop-again : tie.Need-loop-again Inv-loop μ-loop
 loop-again c =
-    let a = c .before .before .before .before .before .before .before .before .before .args in
-    (search needs, go (c .before .before .before .before .before .before .loop .inv .1) (laws.mask-step (a .l) (c .before .before .before .before .before .before .loop .i) (a .count) (c .before .before .before .before .before .loop-test .taken)) (rw (c .before .before .before .literal2 .ensures, c .before .before .before .before .before .before .before .literal .ensures) at (c .before .before .put-gate .ensures)))
+    let a = c .before .before .before .before .before .before .before .before .before .before .args in
+    (search needs, go (c .before .before .before .before .before .before .before .loop .inv .1) (laws.mask-step (a .l .0) (c .before .before .before .before .before .before .before .loop .i) (a .count) (c .before .before .before .before .before .before .loop-test .taken)) (rw (c .before .before .before .literal2 .ensures, c .before .before .before .before .after .ensures, c .before .before .before .before .before .before .before .before .literal .ensures) at (c .before .before .put-gate .ensures)))
 
 same-length : tie.Need-same-length Inv-loop μ-loop
 same-length c = going-kept (c .before .loop .inv .1)
@@ -57,7 +57,7 @@ put-masks-spec =
     μ-loop
     literal-requires
     loop-holds
-    add-literal
+    after-requires
     literal-requires-2
     put-gate-requires
     add-i

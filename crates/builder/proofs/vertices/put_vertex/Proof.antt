@@ -9,26 +9,28 @@ use Rattle.builder.proofs.vertices.put_vertex.Tie as tie
 
 put-or-requires : tie.Need-put-or-requires
 put-or-requires c κs =
-    let a = c .before .before .before .before .before .args in
-    let t = laws.vertex-parts (take (a .edges) (a .to .now)) (take (a .edges) (a .happy .now)) (take (a .edges) (a .condemned .now)) (a .n) (a .v) _ refl in
-    (room-first (t .0) (c .before .before .before .before .before .pre .0), c .before .before .before .before .before .pre .1, c .before .before .before .before .before .pre .2)
+    let s = c .before .before .before .before .before in
+    let a = s .args in
+    let t = laws.vertex-parts (take (a .edges) (a .to .now)) (take (a .edges) (a .happy .now)) (take (a .edges) (a .condemned .now)) (a .n .0) (a .v) _ refl in
+    (room-first (t .0) (s .pre .0), s .pre .1, s .pre .2)
 
 put-or-requires-2 : tie.Need-put-or-requires-2
 put-or-requires-2 c κs =
+    let s = c .before .before .before .before .before .before .before .before .before in
     let h = c .before .before .before .put-or .ensures in
-    let a = c .before .before .before .before .before .before .before .before .before .args in
-    let t = laws.vertex-parts (take (a .edges) (a .to .now)) (take (a .edges) (a .happy .now)) (take (a .edges) (a .condemned .now)) (a .n) (a .v) _ (h .0 .count) in
-    (room-second (t .0) (c .before .before .before .before .before .before .before .before .before .pre .0) (h .0), c .before .before .before .before .before .before .before .before .before .pre .1, c .before .before .before .before .before .before .before .before .before .pre .3)
+    let a = s .args in
+    let t = laws.vertex-parts (take (a .edges) (a .to .now)) (take (a .edges) (a .happy .now)) (take (a .edges) (a .condemned .now)) (a .n .0) (a .v) _ (h .0 .count) in
+    (room-second (t .0) (s .pre .0) (h .0), s .pre .1, s .pre .3)
 
 same-length : tie.Need-same-length
 same-length c = search needs
 
 returns : tie.Need-returns
 returns c =
-    let h = c .before .before .before .before .before .before .put-or .ensures in
-    let d = c .before .before .put-or2 .ensures in
-    let a = c .before .before .before .before .before .before .before .before .before .before .before .before .args in
-    let t = laws.vertex-parts (take (a .edges) (a .to .now)) (take (a .edges) (a .happy .now)) (take (a .edges) (a .condemned .now)) (a .n) (a .v) _ (h .0 .count) in
+    let h = c .before .before .before .before .before .before .before .before .before .put-or .ensures in
+    let d = c .before .before .before .before .before .put-or2 .ensures in
+    let a = c .before .before .before .before .before .before .before .before .before .before .before .before .before .before .before .args in
+    let t = laws.vertex-parts (take (a .edges) (a .to .now)) (take (a .edges) (a .happy .now)) (take (a .edges) (a .condemned .now)) (a .n .0) (a .v) _ (h .0 .count) in
     (whole-of (t .0) (h .0) (d .0), h .1 ∙ sym (t .1), d .1 ∙ sym (t .2))
 
 pub put-vertex-spec : {M : Type 1} → statement M

@@ -12,25 +12,25 @@ read-requires : tie.Need-read-requires
 read-requires c κs = search needs
 
 returns : tie.Need-returns
-returns c = judge-unformed _ _ (c .before .read .ensures) (not-true _ (c .if1 .taken))
+returns c = judge-unformed _ _ (c .before .read .ensures .0) (not-true _ (c .if1 .taken))
 
 returns-2 : tie.Need-returns-2
-returns-2 c = judge-formed _ _ (c .before .before .read .ensures) (not-false _ (c .before .if1 .left)) .depth (omega arith)
+returns-2 c = judge-formed _ _ (c .before .before .read .ensures .0) (not-false _ (c .before .if1 .left)) .depth (omega arith)
 
 words-known-requires : tie.Need-words-known-requires
 words-known-requires c κs =
     let i = c .before .before .before in
-    judge-formed [] _ (i .before .before .read .ensures) (not-false _ (i .before .if1 .left)) .room
+    judge-formed [] _ (i .before .before .read .ensures .0) (not-false _ (i .before .if1 .left)) .room
 
 returns-3 : tie.Need-returns-3
 returns-3 c =
     let i = c .before .before .before .before .before in
-    judge-formed _ _ (i .before .before .read .ensures) (not-false _ (i .before .if1 .left)) .names (sym (c .if3 .taken) ∙ c .before .words-known .ensures) (omega arith)
+    judge-formed _ _ (i .before .before .read .ensures .0) (not-false _ (i .before .if1 .left)) .names (sym (c .if3 .taken) ∙ c .before .words-known .ensures) (omega arith)
 
 returns-4 : tie.Need-returns-4
 returns-4 c =
     let i = c .before .before .before .before .before in
-    judge-formed _ _ (i .before .before .read .ensures) (not-false _ (i .before .if1 .left)) .names (sym (c .if3 .left) ∙ c .before .words-known .ensures) (omega arith)
+    judge-formed _ _ (i .before .before .read .ensures .0) (not-false _ (i .before .if1 .left)) .names (sym (c .if3 .left) ∙ c .before .words-known .ensures) (omega arith)
 
 pub judge-spec : {M : Type 1} → statement M
 judge-spec =

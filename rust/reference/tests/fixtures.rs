@@ -1,0 +1,47 @@
+//! The fixtures of the two programs, which are limit cases, hold what this implementation gives.
+
+use reference::{build, rejected_cycles, write, Graph};
+use std::path::Path;
+
+fn fixture(program: &str, name: &str) -> Vec<u8> {
+    let crates = Path::new(env!("CARGO_MANIFEST_DIR")).join("../../crates");
+    std::fs::read(crates.join(program).join(name)).unwrap()
+}
+
+#[test]
+fn file_of_the_longest_graph() {
+    let graph = fixture("graph2aiger", "stdin");
+    assert_eq!(graph.len(), 32_768);
+    let (mut net, mut text) = ([0; 8_194], [0; 65_536]);
+    build(&graph, &mut net).unwrap();
+    let length = write(&net, &mut text).unwrap();
+    assert_eq!(text[..length], fixture("graph2aiger", "stdout"));
+}
+
+#[test]
+fn page_of_the_longest_input() {
+    let input = fixture("monitor", "stdin");
+    assert_eq!(input.len(), 65_536);
+    let at = input
+        .windows(3)
+        .position(|bytes| bytes == b"\nT\n")
+        .unwrap();
+    let graph = Graph::parse(&input[..=at]).unwrap();
+    let cycles: Vec<&[u8]> = input[at + 3..].split(|byte| *byte == b'\n').collect();
+    let (last, cycles) = cycles.split_last().unwrap();
+    assert!(last.is_empty());
+    let rejected = rejected_cycles(&graph, cycles);
+    let lines = (1..).zip(&rejected).filter(|(_, rejected)| **rejected);
+    let mut page: String = lines
+        .clone()
+        .map(|(cycle, _)| format!("R\t{cycle}\n"))
+        .collect();
+    let verdict = if rejected.last() == Some(&true) {
+        "rejected"
+    } else {
+        "accepted"
+    };
+    page += &format!("sum\t{}\t{}\t{verdict}\n", cycles.len(), lines.count());
+    assert_eq!(page.len(), 250_991);
+    assert_eq!(page.into_bytes(), fixture("monitor", "stdout"));
+}

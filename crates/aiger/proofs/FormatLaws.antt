@@ -16,7 +16,7 @@ use Rattle.netlist.proofs.ValidLaws.{valid}
 use Rattle.aiger.specs.Format.{latchLine, outputLine, gateLine, fileWith}
 
 -- what is the same at each number below a count is the same joined, and tested
-pub joined-same : (f g : ℕ → List ℕ) (n : ℕ) → ((k : ℕ) → k < n → f k ≡ g k) → joined f n ≡ joined g n
+joined-same : (f g : ℕ → List ℕ) (n : ℕ) → ((k : ℕ) → k < n → f k ≡ g k) → joined f n ≡ joined g n
 joined-same f g zero h = refl
 joined-same f g (suc n) h = ap₂ _++_ (joined-same f g n (λ k l. h k (omega arith))) (h n (omega arith))
 
@@ -43,7 +43,7 @@ module _ (a b : List ℕ) (same : (i : ℕ) → i < sizeOf b → getD a i 0 ≡ 
   gates-same : gateCount a ≡ gateCount b
   gates-same = same 4 (omega arith)
 
-  pub size-same : sizeOf a ≡ sizeOf b
+  size-same : sizeOf a ≡ sizeOf b
   size-same = rw (latches-same, outputs-same, gates-same)
 
   -- ---- the file

@@ -21,7 +21,7 @@ use Rattle.aiger.specs.Format.{inputLine, latchLine, outputLine, gateLin
 
 -- ---- numbers of at most four digits, and lines of them
 
-pub digits-four : (n : ℕ) → n < 10000 → length (digits n) ≤ 4
+digits-four : (n : ℕ) → n < 10000 → length (digits n) ≤ 4
 digits-four n h = digits-length 3 n (omega arith)
 
 line-one : (n : ℕ) → n < 10000 → length (line n []) ≤ 5
@@ -38,11 +38,11 @@ line-two a b ha hb = omega (arith, line-more a b [] ha, line-one b hb)
 line-three : (a b c : ℕ) → a < 10000 → b < 10000 → c < 10000 → length (line a (b ∷ c ∷ [])) ≤ 15
 line-three a b c ha hb hc = omega (arith, line-more a b (c ∷ []) ha, line-two b c hb hc)
 
-pub literal-length : (lit : ℕ) → lit < 10000 → length (literalRow lit) ≤ 5
+literal-length : (lit : ℕ) → lit < 10000 → length (literalRow lit) ≤ 5
 unfolding literalRow
 literal-length lit h = line-one lit h
 
-pub latch-length : (explicit : Bool) (lit next reset : ℕ) → lit < 10000 → next < 10000 → reset < 10000 → length (latchRow explicit lit next reset) ≤ 15
+latch-length : (explicit : Bool) (lit next reset : ℕ) → lit < 10000 → next < 10000 → reset < 10000 → length (latchRow explicit lit next reset) ≤ 15
 unfolding latchRow
 latch-length explicit lit next reset hl hn hr = go (eqb reset 0 && not explicit)
   where
@@ -54,7 +54,7 @@ pub gate-length : (lit r0 r1 : ℕ) → lit < 10000 → r0 < 10000 → r1 < 1000
 unfolding gateRow
 gate-length lit r0 r1 hl h0 h1 = line-three lit r0 r1 hl h0 h1
 
-pub header-length : (m i l o a : ℕ) → m < 10000 → i < 10000 → l < 10000 → o < 10000 → a < 10000 → length (headerRow m i l o a) ≤ 29
+header-length : (m i l o a : ℕ) → m < 10000 → i < 10000 → l < 10000 → o < 10000 → a < 10000 → length (headerRow m i l o a) ≤ 29
 unfolding headerRow
 header-length m i l o a hm hi hl ho ha =
     omega (arith, line-more m i (l ∷ o ∷ a ∷ []) hm, line-more i l (o ∷ a ∷ []) hi, line-three l o a hl ho ha)

@@ -3,4 +3,5 @@ pub mod RowLaws
 pub mod WriteLaws
 pub mod LengthLaws
 pub mod FormatLaws
+pub mod ClaimLaws
 pub mod Examples

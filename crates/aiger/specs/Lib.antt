@@ -2,3 +2,4 @@
 pub mod Rows
 pub mod Format
 pub mod Write
+pub mod Claims

@@ -1,6 +1,6 @@
 -- The lines of an AIGER file in the ASCII format. Each takes the literals that it names, so that other
 -- orders and forms can share them. Assumes nothing.
-use mathlib.Core.Bool.{Bool, true, false, not, cond, _&&_}
+use mathlib.Core.Bool.{Bool, not, cond, _&&_}
 use mathlib.Core.List.{List, [], _∷_, _++_}
 use Prim.Native.Nat.{ℕ}
 use lib.Dec.{eqb}

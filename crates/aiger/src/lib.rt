@@ -1,5 +1,6 @@
 // The AIGER ASCII format: the file of a netlist, written into a lent buffer. Knows nothing of graphs.
-// Exports that a netlist's file has at most 65,536 bytes and does not depend on surplus numbers.
+// Exports that a netlist is written exactly where there is room for its file, that no file has more than
+// 65,536 bytes, and that surplus numbers change nothing.
 use netlist::Literal;
 use netlist::Variable;
 use netlist::is_netlist;
@@ -19,6 +20,7 @@ ghost use Rattle.netlist.specs.Literals.{literalOf};
 ghost use Rattle.aiger.specs.Rows.{line, headerRow, literalRow, latchRow, gateRow};
 ghost use Rattle.aiger.specs.Format.{inputLine, latchLine, outputLine, gateLine, fileOf};
 ghost use Rattle.aiger.specs.Write.{refusalOf, writeEnd, writeOf};
+ghost use Rattle.aiger.specs.Claims.{WriteMeans};
 
 // Why a write is refused.
 pub enum Cause {
@@ -105,14 +107,14 @@ fn put_literal_row(text: &mut [u8], at: usize, lit: Literal) -> usize
     put_field(text, at, lit.0, b'\n')
 }
 
-// Appends the line of a latch: a reset that is 0 is not written.
-fn put_latch_row(text: &mut [u8], at: usize, lit: Literal, next: Literal, reset: u16) -> usize
-    ensures { λ r. ⌜ Wrote (now (text .entry)) (now (text .exit)) at r (latchRow false (lit .0) (next .0) reset) ⌝ }
+// Appends the line of a latch: the reset 0, which is false's literal, is not written.
+fn put_latch_row(text: &mut [u8], at: usize, lit: Literal, next: Literal, reset: Literal) -> usize
+    ensures { λ r. ⌜ Wrote (now (text .entry)) (now (text .exit)) at r (latchRow false (lit .0) (next .0) (reset .0)) ⌝ }
 {
-    if reset == 0 {
+    if reset.0 == 0 {
         put_two(text, at, lit.0, next.0)
     } else {
-        put_three(text, at, lit.0, next.0, reset)
+        put_three(text, at, lit.0, next.0, reset.0)
     }
 }
 
@@ -146,19 +148,19 @@ fn put_latch(text: &mut [u8], at: usize, net: &[u16], k: u16, own: Variable) -> 
     let next = net[from];
     let reset = net[from + 1];
     let lit = own.literal(false);
-    put_latch_row(text, at, lit, Literal(next), reset)
+    put_latch_row(text, at, lit, Literal(next), Literal(reset))
 }
 
 // Appends the lines of the first `count` latches, whose variables are `first` and those that follow it.
-fn put_latches(text: &mut [u8], at: usize, net: &[u16], first: u16, count: u16) -> usize
-    requires { ⌜ first ≡ inputCount (now net) + 1 ⌝ }
-    requires { ⌜ (5 + 2 * count ≤ length (now net)) × (first + count ≤ 32768) ⌝ }
+fn put_latches(text: &mut [u8], at: usize, net: &[u16], first: Variable, count: u16) -> usize
+    requires { ⌜ first .0 ≡ inputCount (now net) + 1 ⌝ }
+    requires { ⌜ (5 + 2 * count ≤ length (now net)) × (first .0 + count ≤ 32768) ⌝ }
     ensures { λ r. ⌜ Wrote (now (text .entry)) (now (text .exit)) at r
         (joined (latchLine (now (net .entry)) (λ _. false)) count) ⌝ }
 {
     let mut p = at;
     for k in 0..count {
-        p = put_latch(text, p, net, k, Variable(first + k));
+        p = put_latch(text, p, net, k, Variable(first.0 + k));
     }
     p
 }
@@ -191,15 +193,22 @@ fn put_gate(text: &mut [u8], at: usize, net: &[u16], from: usize, own: Variable)
 
 // Appends the lines of the first `count` gates, whose operands stand from `from` on, and whose
 // variables are `first` and those that follow it.
-fn put_gates(text: &mut [u8], at: usize, net: &[u16], from: usize, first: u16, count: u16) -> usize
+fn put_gates(
+    text: &mut [u8],
+    at: usize,
+    net: &[u16],
+    from: usize,
+    first: Variable,
+    count: u16,
+) -> usize
     requires { ⌜ (from ≡ 5 + 2 * latchCount (now net) + outputCount (now net))
-        × (first ≡ inputCount (now net) + latchCount (now net) + 1) ⌝ }
-    requires { ⌜ (from + 2 * count ≤ length (now net)) × (first + count ≤ 32768) ⌝ }
+        × (first .0 ≡ inputCount (now net) + latchCount (now net) + 1) ⌝ }
+    requires { ⌜ (from + 2 * count ≤ length (now net)) × (first .0 + count ≤ 32768) ⌝ }
     ensures { λ r. ⌜ Wrote (now (text .entry)) (now (text .exit)) at r (joined (gateLine (now (net .entry))) count) ⌝ }
 {
     let mut p = at;
     for k in 0..count {
-        p = put_gate(text, p, net, from + 2 * (k as usize), Variable(first + k));
+        p = put_gate(text, p, net, from + 2 * (k as usize), Variable(first.0 + k));
     }
     p
 }
@@ -219,7 +228,7 @@ fn put_logic(text: &mut [u8], at: usize, net: &[u16]) -> usize
     let outputs = HEADER + 2 * (l as usize);
     let operands = outputs + o as usize;
     let p = put_outputs(text, at, net, outputs, o);
-    put_gates(text, p, net, operands, i + l + 1, a)
+    put_gates(text, p, net, operands, Variable(i + l + 1), a)
 }
 
 // Appends the file of a netlist.
@@ -232,7 +241,7 @@ fn put_file(text: &mut [u8], at: usize, net: &[u16]) -> usize
     let l = net[2];
     let p1 = put_header(text, at, net);
     let p2 = put_inputs(text, p1, i);
-    let p3 = put_latches(text, p2, net, i + 1, l);
+    let p3 = put_latches(text, p2, net, Variable(i + 1), l);
     put_logic(text, p3, net)
 }
 
@@ -240,6 +249,7 @@ fn put_file(text: &mut [u8], at: usize, net: &[u16]) -> usize
 // refusal leaves the buffer as it was.
 pub fn write(net: &[u16], text: &mut [u8]) -> Written
     ensures { λ r. ⌜ writeEnd r (now (text .exit)) ≡ writeOf (now (net .entry)) (now (text .entry)) ⌝ }
+    ensures exact { λ _. ⌜ WriteMeans ⌝ }
 {
     if !is_netlist(net) {
         return Written::Refused(Cause::NotNetlist);

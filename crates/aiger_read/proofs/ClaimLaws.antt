@@ -1,21 +1,96 @@
 -- THE CLAIM: read takes exactly the files, and reading what was written gives the same numbers. Assumes nothing.
-use mathlib.Core.Path.{_≡_, sym, ap, _∙_}
-use mathlib.Core.Bool.{true, false}
-use mathlib.Core.List.{List}
-use Prim.Native.Nat.{ℕ, _≤_}
-use lib.ListN.{length, take}
+use mathlib.Core.Path.{_≡_, refl, sym, ap, _∙_}
+use mathlib.Core.Bool.{Bool, true, false, cond, not}
+use mathlib.Core.List.{List, _++_}
+use mathlib.Core.Logic.{_⊎_, inl, inr}
+use Prim.Native.Nat.{ℕ, _<_, _≤_}
+use native.Mathlib.Omega.{arith}
+use borrow.Author.Tests.{le-leb, lt-leb}
+use lib.Dec.{leb}
+use lib.ListN.{length, take, drop}
 use Rattle.netlist.specs.Layout.{sizeOf}
 use Rattle.netlist.specs.Valid.{isNetlist}
 use Rattle.aiger.specs.Format.{fileOf}
 use Rattle.aiger.proofs.FormatLaws.{trimmed-size, trimmed-file, trimmed-length, trimmed-netlist}
 use Rattle.aiger.proofs.LengthLaws.{file-length}
-use Rattle.aiger_read.specs.Files.{rows, fileRead}
+use Rattle.aiger_read.specs.declared.Fault.{Fault}
+use Rattle.aiger_read.specs.declared.Cause.{Cause}
+use Rattle.aiger_read.specs.declared.Cause.the-variants.{TextTooLong, ShortBuffer, FaultyLine}
+use Rattle.aiger_read.specs.declared.ReadOutcome.{ReadOutcome}
+use Rattle.aiger_read.specs.declared.ReadOutcome.the-variants.{Numbers, Refused}
+use Rattle.aiger_read.specs.Files.{Rows, rows, failed, fileRead}
+use Rattle.aiger_read.specs.Read.{ReadEnd, readEnd, maxText, readAs, readOf}
 use Rattle.aiger_read.specs.Claims.{IsFile, ReadMeans}
 use Rattle.aiger_read.proofs.FileLaws.{sound}
 use Rattle.aiger_read.proofs.CompleteLaws.{complete}
 
-short : (text net : List ℕ) → IsFile text net → length text ≤ 65536
-short text net f = rw (f .is) (file-length net (f .netlist) (f .explicit))
+-- ---- a file is read as its netlist, and no limit is in its way
+
+module _ (text net buf : List ℕ) (f : IsFile text net) where
+  fits : leb (length text) maxText ≡ true
+  fits = le-leb (length text) maxText (rw (f .is) (file-length net (f .netlist) (f .explicit)))
+
+  takes : length net ≤ length buf → readOf text buf ≡ readEnd (Numbers (length net)) (net ++ drop (length net) buf)
+  unfolding readOf readAs
+  takes h = rw (fits, complete text net f .2, le-leb (length net) (length buf) h)
+
+  short : length buf < length net → readOf text buf ≡ readEnd (Refused ShortBuffer) buf
+  unfolding readOf readAs
+  short h = rw (fits, complete text net f .2, lt-leb (length net) (length buf) h)
+
+-- ---- nothing else is
+
+module _ (text buf : List ℕ) where
+  answers : {a b : ReadOutcome} {before after : List ℕ} → readEnd a before ≡ readEnd b after → a ≡ b
+  answers h = ap (λ (e : ReadEnd). e .answer) h
+
+  refused-numbers : {c : Cause} {n : ℕ} {after : List ℕ} → readEnd (Refused c) buf ≡ readEnd (Numbers n) after → ⊥
+  refused-numbers h =
+      let a = answers h in
+      let z : _≡_ {A = ℕ} 0 1 = cc in
+      omega arith
+
+  module _ (n : ℕ) (after : List ℕ) where
+    abbrev File : Type 0
+    File = (net : List ℕ) × IsFile text net × (n ≡ length net) × (after ≡ net ++ drop n buf)
+
+    only-room : (ns : List ℕ) (t : Bool) → IsFile text ns
+        → cond (not t) (readEnd (Refused ShortBuffer) buf) (readEnd (Numbers (length ns)) (ns ++ drop (length ns) buf)) ≡ readEnd (Numbers n) after → File
+    only-room ns true f h =
+        let a = answers h in
+        let e : n ≡ length ns = cc in
+        (ns, f, e, rw e (sym (ap (λ (e : ReadEnd). e .net) h)))
+    only-room ns false f h = absurd (refused-numbers h)
+
+    only-as : (x : Rows) → fileRead text ≡ x → readAs x buf ≡ readEnd (Numbers n) after → File
+    unfolding readAs
+    only-as (rows ns free q) e h = only-room ns (leb (length ns) (length buf)) (sound text ns free q e) h
+    only-as (failed fault line) e h = absurd (refused-numbers h)
+
+    only : readOf text buf ≡ readEnd (Numbers n) after → File
+    unfolding readOf
+    only h = go (leb (length text) maxText) h
+      where
+        go : (t : Bool) → cond (not t) (readEnd (Refused TextTooLong) buf) (readAs (fileRead text) buf) ≡ readEnd (Numbers n) after → File
+        go true g = only-as (fileRead text) refl g
+        go false g = absurd (refused-numbers g)
+
+  module _ (no : (net : List ℕ) → IsFile text net → ⊥) where
+    other-as : (x : Rows) → fileRead text ≡ x → (fault : Fault) × (line : ℕ) × (readAs x buf ≡ readEnd (Refused (FaultyLine fault line)) buf)
+    unfolding readAs
+    other-as (rows ns free q) e = absurd (no ns (sound text ns free q e))
+    other-as (failed fault line) e = (fault, line, refl)
+
+    other : (readOf text buf ≡ readEnd (Refused TextTooLong) buf) ⊎ ((fault : Fault) × (line : ℕ) × (readOf text buf ≡ readEnd (Refused (FaultyLine fault line)) buf))
+    unfolding readOf
+    other = go (leb (length text) maxText)
+      where
+        go : (t : Bool) → (cond (not t) (readEnd (Refused TextTooLong) buf) (readAs (fileRead text) buf) ≡ readEnd (Refused TextTooLong) buf)
+            ⊎ ((fault : Fault) × (line : ℕ) × (cond (not t) (readEnd (Refused TextTooLong) buf) (readAs (fileRead text) buf) ≡ readEnd (Refused (FaultyLine fault line)) buf))
+        go true = inr (other-as (fileRead text) refl)
+        go false = inl refl
+
+-- ---- what was written
 
 trip : (net : List ℕ) → isNetlist net ≡ true → IsFile (fileOf net) (take (sizeOf net) net)
 unfolding fileOf
@@ -27,6 +102,11 @@ trip net h =
       is = sym (trimmed-file net (λ _. false));
     }
 
+back : (net buf : List ℕ) → isNetlist net ≡ true → sizeOf net ≤ length buf → readOf (fileOf net) buf ≡ readEnd (Numbers (sizeOf net)) (take (sizeOf net) net ++ drop (sizeOf net) buf)
+back net buf h l =
+    let e = trimmed-length net h in
+    rw e at (takes (fileOf net) (take (sizeOf net) net) buf (trip net h) (rw e l))
+
 same : (net other : List ℕ) → isNetlist net ≡ true → isNetlist other ≡ true → fileOf net ≡ fileOf other → take (sizeOf net) net ≡ take (sizeOf other) other
 same net other h g e =
     let a = complete (fileOf net) (take (sizeOf net) net) (trip net h) in
@@ -35,4 +115,4 @@ same net other h g e =
     cc
 
 pub read-means : ReadMeans
-read-means = record { sound = sound; short = short; complete = complete; trip = trip; same = same }
+read-means = record { takes = takes; short = short; only = only; other = other; back = back; same = same }

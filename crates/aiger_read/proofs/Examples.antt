@@ -1,99 +1,112 @@
--- Files of the AIGER distribution and graph G's, read: the numbers, or the fault and its line. Assumes nothing.
+-- Files of the AIGER distribution, graph G's and one with latches, and faulty ones: what read answers by the
+-- definitions, and what the netlists taken mean. Assumes nothing.
 use mathlib.Core.Path.{_≡_, refl}
-use mathlib.Core.Bool.{Bool, true, false, not}
-use mathlib.Core.List.{List, [], _∷_}
+use mathlib.Core.Bool.{Bool, not, _&&_}
+use mathlib.Core.List.{List, [], _∷_, _++_, map}
 use Prim.Native.Nat.{ℕ}
+use Prim.Native.String.{String}
+use lib.ListN.{length}
+use Rattle.text.specs.Quoted.{bytes}
 use Rattle.text.specs.Numbers.{isDigit, leadingDigits, valueFrom, isNumeral, readNumber}
 use Rattle.netlist.specs.Literals.{literalOf, variableOf, isInverted}
-use Rattle.netlist.specs.Meaning.{bools, signed, litOf, gatesOf, front, valuesOf, outputOf}
+use Rattle.netlist.specs.Meaning.{bools, signed, litOf, gateOf, gatesOf, front, valuesOf, nextsOf, nextOf, outputOf}
 use Rattle.netlist.specs.Valid.{headerOk}
+use Rattle.aiger_read.specs.declared.Fault.{Fault}
 use Rattle.aiger_read.specs.declared.Fault.the-variants.{WrongShape, OutOfLimits}
+use Rattle.aiger_read.specs.declared.Cause.the-variants.{FaultyLine}
+use Rattle.aiger_read.specs.declared.ReadOutcome.the-variants.{Numbers, Refused}
 use Rattle.aiger_read.specs.Fields.{onNumber, numberThen, before, fieldsOf, latchFields}
 use Rattle.aiger_read.specs.Lines.{judged, inputAt, latchFits, latchAt, outputAt, gateFits, gateAt}
-use Rattle.aiger_read.specs.Files.{rows, failed, behind, andThen, onRow, rowsOf, endOf, bodyOf, hasTag, headed, fileRead}
+use Rattle.aiger_read.specs.Files.{behind, andThen, onRow, rowsOf, endOf, bodyOf, hasTag, headed, fileRead}
+use Rattle.aiger_read.specs.Read.{readEnd, readAs, readOf}
 
--- a buffer: `aag 1 1 0 1 0`, `2`, `2`
-abbrev pub buffer : List ℕ
-buffer =
-    97 ∷ 97 ∷ 103 ∷ 32 ∷ 49 ∷ 32 ∷ 49 ∷ 32 ∷ 48 ∷ 32 ∷ 49 ∷ 32 ∷ 48 ∷ 10 ∷ 50 ∷ 10 ∷ 50 ∷ 10 ∷ []
+-- a text is read as a netlist, into a buffer of just its length
+abbrev reads : List ℕ → List ℕ → Type 0
+reads text net = readOf text (map (λ _. 0) net) ≡ readEnd (Numbers (length net)) net
 
--- an inverter: `aag 1 1 0 1 0`, `2`, `3`
-abbrev pub inverter : List ℕ
-inverter =
-    97 ∷ 97 ∷ 103 ∷ 32 ∷ 49 ∷ 32 ∷ 49 ∷ 32 ∷ 48 ∷ 32 ∷ 49 ∷ 32 ∷ 48 ∷ 10 ∷ 50 ∷ 10 ∷ 51 ∷ 10 ∷ []
+-- or refused at a line
+abbrev refuses : List ℕ → Fault → ℕ → Type 0
+refuses text fault line = readOf text [] ≡ readEnd (Refused (FaultyLine fault line)) []
 
--- graph G of document 01
-abbrev pub graph : List ℕ
-graph =
-    97 ∷ 97 ∷ 103 ∷ 32 ∷ 49 ∷ 50 ∷ 32 ∷ 51 ∷ 32 ∷ 50 ∷ 32 ∷ 49 ∷ 32 ∷ 55 ∷ 10 ∷ 50 ∷ 10 ∷ 52 ∷ 10 ∷ 54 ∷ 10 ∷ 56 ∷ 32 ∷ 49 ∷ 56 ∷ 10 ∷ 49 ∷ 48 ∷ 32 ∷ 50 ∷ 53 ∷ 10 ∷ 50 ∷ 52 ∷ 10 ∷ 49 ∷ 50 ∷ 32 ∷ 56 ∷ 32 ∷ 51 ∷ 10 ∷ 49 ∷ 52 ∷ 32 ∷ 49 ∷ 48 ∷ 32 ∷ 51 ∷ 10 ∷ 49 ∷ 54 ∷ 32 ∷ 52 ∷ 32 ∷ 50 ∷ 10 ∷ 49 ∷ 56 ∷ 32 ∷ 49 ∷ 54 ∷ 32 ∷ 54 ∷ 10 ∷ 50 ∷ 48 ∷ 32 ∷ 49 ∷ 54 ∷ 32 ∷ 55 ∷ 10 ∷ 50 ∷ 50 ∷ 32 ∷ 52 ∷ 32 ∷ 48 ∷ 10 ∷ 50 ∷ 52 ∷ 32 ∷ 50 ∷ 51 ∷ 32 ∷ 50 ∷ 49 ∷ 10 ∷ []
+-- Four latches and a gate: the second latch in line 4, the output in line 7 and the gate in line 8 are open.
+-- The first latch's reset is left out, the third's is 1, and the fourth is uninitialised.
+abbrev latched : String → String → String → List ℕ
+latched latch output gate =
+    bytes "aag 6 1 4 1 1\n2\n4 2\n" ++ (bytes latch ++ (bytes "8 6 1\n10 8 10\n" ++ (bytes output ++ bytes gate)))
 
--- a latch whose reset 0 is explicit: `aag 2 1 1 1 0`, `2`, `4 2 0`, `4`
-abbrev pub explicit : List ℕ
-explicit =
-    97 ∷ 97 ∷ 103 ∷ 32 ∷ 50 ∷ 32 ∷ 49 ∷ 32 ∷ 49 ∷ 32 ∷ 49 ∷ 32 ∷ 48 ∷ 10 ∷ 50 ∷ 10 ∷ 52 ∷ 32 ∷ 50 ∷ 32 ∷ 48 ∷ 10 ∷ 52 ∷ 10 ∷ []
+abbrev latchedNet : List ℕ
+latchedNet = 6 ∷ 1 ∷ 4 ∷ 1 ∷ 1 ∷ 2 ∷ 0 ∷ 4 ∷ 0 ∷ 6 ∷ 1 ∷ 8 ∷ 10 ∷ 12 ∷ 10 ∷ 3 ∷ []
 
--- an AND gate: `aag 3 2 0 1 1`, `2`, `4`, `6`, `6 2 4`
-abbrev pub andGate : List ℕ
-andGate =
-    97 ∷ 97 ∷ 103 ∷ 32 ∷ 51 ∷ 32 ∷ 50 ∷ 32 ∷ 48 ∷ 32 ∷ 49 ∷ 32 ∷ 49 ∷ 10 ∷ 50 ∷ 10 ∷ 52 ∷ 10 ∷ 54 ∷ 10 ∷ 54 ∷ 32 ∷ 50 ∷ 32 ∷ 52 ∷ 10 ∷ []
-
--- an OR gate: `aag 3 2 0 1 1`, `2`, `4`, `7`, `6 3 5`
-abbrev pub orGate : List ℕ
-orGate =
-    97 ∷ 97 ∷ 103 ∷ 32 ∷ 51 ∷ 32 ∷ 50 ∷ 32 ∷ 48 ∷ 32 ∷ 49 ∷ 32 ∷ 49 ∷ 10 ∷ 50 ∷ 10 ∷ 52 ∷ 10 ∷ 55 ∷ 10 ∷ 54 ∷ 32 ∷ 51 ∷ 32 ∷ 53 ∷ 10 ∷ []
-
--- the buffer without its last LF
-abbrev pub unended : List ℕ
-unended =
-    97 ∷ 97 ∷ 103 ∷ 32 ∷ 49 ∷ 32 ∷ 49 ∷ 32 ∷ 48 ∷ 32 ∷ 49 ∷ 32 ∷ 48 ∷ 10 ∷ 50 ∷ 10 ∷ 50 ∷ []
-
--- the buffer with one line more
-abbrev pub longer : List ℕ
-longer =
-    97 ∷ 97 ∷ 103 ∷ 32 ∷ 49 ∷ 32 ∷ 49 ∷ 32 ∷ 48 ∷ 32 ∷ 49 ∷ 32 ∷ 48 ∷ 10 ∷ 50 ∷ 10 ∷ 50 ∷ 10 ∷ 50 ∷ 10 ∷ []
-
--- a constant, without inputs: `aag 0 0 0 1 0`, `0`
-abbrev pub constant : List ℕ
-constant =
-    97 ∷ 97 ∷ 103 ∷ 32 ∷ 48 ∷ 32 ∷ 48 ∷ 32 ∷ 48 ∷ 32 ∷ 49 ∷ 32 ∷ 48 ∷ 10 ∷ 48 ∷ 10 ∷ []
-
--- the files that are taken, with their numbers, the uninitialised latches and the place after them
 pub record Table : Type 0 where
-  pub a-buffer : fileRead buffer ≡ rows (1 ∷ 1 ∷ 0 ∷ 1 ∷ 0 ∷ 2 ∷ []) 0 18
-  pub an-inverter : fileRead inverter ≡ rows (1 ∷ 1 ∷ 0 ∷ 1 ∷ 0 ∷ 3 ∷ []) 0 18
-  pub a-graph : fileRead graph ≡ rows (12 ∷ 3 ∷ 2 ∷ 1 ∷ 7 ∷ 18 ∷ 0 ∷ 25 ∷ 0 ∷ 24 ∷ 8 ∷ 3 ∷ 10 ∷ 3 ∷ 4 ∷ 2 ∷ 16 ∷ 6 ∷ 16 ∷ 7 ∷ 4 ∷ 0 ∷ 23 ∷ 21 ∷ []) 0 89
-  pub an-explicit : fileRead explicit ≡ rows (2 ∷ 1 ∷ 1 ∷ 1 ∷ 0 ∷ 2 ∷ 0 ∷ 4 ∷ []) 0 24
-  -- refused: the operands' order
-  pub an-and : fileRead andGate ≡ failed OutOfLimits 5
-  pub an-or : fileRead orGate ≡ failed OutOfLimits 5
-  -- refused: the number and the shape of the lines
-  pub no-lf : fileRead unended ≡ failed WrongShape 3
-  pub an-extra : fileRead longer ≡ failed WrongShape 4
-  pub no-text : fileRead [] ≡ failed WrongShape 1
-  -- refused: the header's limits
-  pub no-input : fileRead constant ≡ failed OutOfLimits 1
+  -- taken: a buffer, an inverter, graph G of document 01, and the latches, with and without an explicit reset 0
+  pub buffer : reads (bytes "aag 1 1 0 1 0\n2\n2\n") (1 ∷ 1 ∷ 0 ∷ 1 ∷ 0 ∷ 2 ∷ [])
+  pub inverter : reads (bytes "aag 1 1 0 1 0\n2\n3\n") (1 ∷ 1 ∷ 0 ∷ 1 ∷ 0 ∷ 3 ∷ [])
+  pub graph : reads (bytes "aag 12 3 2 1 7\n2\n4\n6\n8 18\n10 25\n24\n12 8 3\n14 10 3\n16 4 2\n18 16 6\n20 16 7\n22 4 0\n24 23 21\n")
+      (12 ∷ 3 ∷ 2 ∷ 1 ∷ 7 ∷ 18 ∷ 0 ∷ 25 ∷ 0 ∷ 24 ∷ 8 ∷ 3 ∷ 10 ∷ 3 ∷ 4 ∷ 2 ∷ 16 ∷ 6 ∷ 16 ∷ 7 ∷ 4 ∷ 0 ∷ 23 ∷ 21 ∷ [])
+  pub explicit : reads (latched "6 4 0\n" "12\n" "12 10 3\n") latchedNet
+  pub plain : reads (latched "6 4\n" "12\n" "12 10 3\n") latchedNet
+  -- refused: the header's limits, an AND and an OR gate whose operands are in the other order
+  pub no-input : refuses (bytes "aag 0 0 0 1 0\n0\n") OutOfLimits 1
+  pub and-gate : refuses (bytes "aag 3 2 0 1 1\n2\n4\n6\n6 2 4\n") OutOfLimits 5
+  pub or-gate : refuses (bytes "aag 3 2 0 1 1\n2\n4\n7\n6 3 5\n") OutOfLimits 5
+  -- a latch line: another reset, next above the largest literal, four numbers
+  pub latch-reset : refuses (latched "6 4 2\n" "12\n" "12 10 3\n") OutOfLimits 4
+  pub latch-next : refuses (latched "6 14\n" "12\n" "12 10 3\n") OutOfLimits 4
+  pub latch-shape : refuses (latched "6 4 0 0\n" "12\n" "12 10 3\n") WrongShape 4
+  -- behind latches: an output above the largest literal, one of two numbers; a gate out of order, one that is missing
+  pub output-limit : refuses (latched "6 4\n" "14\n" "12 10 3\n") OutOfLimits 7
+  pub output-shape : refuses (latched "6 4\n" "12 1\n" "12 10 3\n") WrongShape 7
+  pub gate-limit : refuses (latched "6 4\n" "12\n" "14 10 3\n") OutOfLimits 8
+  pub gate-missing : refuses (latched "6 4\n" "12\n" "") WrongShape 8
+  -- a seventh uninitialised latch
+  pub seventh : refuses (bytes "aag 8 1 7 1 0\n2\n4 2 4\n6 2 6\n8 2 8\n10 2 10\n12 2 12\n14 2 14\n16 2 16\n2\n") OutOfLimits 9
+  -- no last LF, a line more, no text
+  pub unended : refuses (latched "6 4\n" "12\n" "12 10 3") WrongShape 8
+  pub longer : refuses (latched "6 4\n" "12\n" "12 10 3\n2\n") WrongShape 9
+  pub no-text : refuses [] WrongShape 1
 
 pub table : Table
-unfolding isDigit leadingDigits valueFrom isNumeral readNumber literalOf headerOk onNumber numberThen before fieldsOf latchFields judged inputAt latchFits latchAt outputAt gateFits gateAt behind andThen onRow rowsOf endOf bodyOf hasTag headed fileRead
+unfolding isDigit leadingDigits valueFrom isNumeral readNumber literalOf headerOk onNumber numberThen before fieldsOf latchFields judged inputAt latchFits latchAt outputAt gateFits gateAt behind andThen onRow rowsOf endOf bodyOf hasTag headed fileRead readAs readOf
 table =
     record {
-      a-buffer = refl;
-      an-inverter = refl;
-      a-graph = refl;
-      an-explicit = refl;
-      an-and = refl;
-      an-or = refl;
-      no-lf = refl;
-      an-extra = refl;
-      no-text = refl;
+      buffer = refl;
+      inverter = refl;
+      graph = refl;
+      explicit = refl;
+      plain = refl;
       no-input = refl;
+      and-gate = refl;
+      or-gate = refl;
+      latch-reset = refl;
+      latch-next = refl;
+      latch-shape = refl;
+      output-limit = refl;
+      output-shape = refl;
+      gate-limit = refl;
+      gate-missing = refl;
+      seventh = refl;
+      unended = refl;
+      longer = refl;
+      no-text = refl;
     }
 
--- what the buffer and the inverter mean: the output is the input, and its inverse
+-- what the netlists mean, for the input b and the latches w x y z: the output is the input, its inverse, and
+-- the fourth latch AND the input's inverse; each latch takes what is before it
+abbrev latchedValues : Bool → Bool → Bool → Bool → Bool → List Bool
+latchedValues b w x y z = valuesOf bools latchedNet (b ∷ []) (w ∷ x ∷ y ∷ z ∷ [])
+
 pub record Meanings : Type 0 where
   pub buffers : (b : Bool) → outputOf bools (1 ∷ 1 ∷ 0 ∷ 1 ∷ 0 ∷ 2 ∷ []) 0 (valuesOf bools (1 ∷ 1 ∷ 0 ∷ 1 ∷ 0 ∷ 2 ∷ []) (b ∷ []) []) ≡ b
   pub inverts : (b : Bool) → outputOf bools (1 ∷ 1 ∷ 0 ∷ 1 ∷ 0 ∷ 3 ∷ []) 0 (valuesOf bools (1 ∷ 1 ∷ 0 ∷ 1 ∷ 0 ∷ 3 ∷ []) (b ∷ []) []) ≡ not b
+  pub joins : (b w x y z : Bool) → outputOf bools latchedNet 0 (latchedValues b w x y z) ≡ (z && not b)
+  pub shifts : (b w x y z : Bool) → nextOf bools latchedNet (latchedValues b w x y z) ≡ b ∷ w ∷ x ∷ y ∷ []
 
 pub meanings : Meanings
-unfolding variableOf isInverted signed litOf gatesOf front valuesOf outputOf
-meanings = record { buffers = λ b. refl; inverts = λ b. refl }
+unfolding variableOf isInverted signed litOf gateOf gatesOf front valuesOf nextsOf nextOf outputOf
+meanings =
+    record {
+      buffers = λ b. refl;
+      inverts = λ b. refl;
+      joins = λ b w x y z. refl;
+      shifts = λ b w x y z. refl;
+    }

@@ -12,11 +12,11 @@ use Rattle.netlist.specs.Layout.{maximum, inputCount, latchCount, outputCount, 
 
 -- ---- pieces of one length, w; piece k stands at W k
 module _ (N : ℕ → List ℕ) (w : ℕ) (W : ℕ → ℕ) (base : W 0 ≡ 0) (step : (k : ℕ) → W (suc k) ≡ W k + w) where
-  pub pieces-length : (n : ℕ) → ((k : ℕ) → k < n → length (N k) ≡ w) → length (joined N n) ≡ W n
+  pieces-length : (n : ℕ) → ((k : ℕ) → k < n → length (N k) ≡ w) → length (joined N n) ≡ W n
   pieces-length zero h = sym base
   pieces-length (suc n) h = length-append (joined N n) (N n) ∙ ap₂ _+_ (pieces-length n (λ k l. h k (omega arith))) (h n (omega arith)) ∙ sym (step n)
 
-  pub piece-at : (n : ℕ) → ((k : ℕ) → k < n → length (N k) ≡ w) → (k j : ℕ) → k < n → j < w → (rest : List ℕ) → getD (joined N n ++ rest) (W k + j) 0 ≡ getD (N k) j 0
+  piece-at : (n : ℕ) → ((k : ℕ) → k < n → length (N k) ≡ w) → (k j : ℕ) → k < n → j < w → (rest : List ℕ) → getD (joined N n ++ rest) (W k + j) 0 ≡ getD (N k) j 0
   piece-at zero h k j l m rest = absurd (omega arith)
   piece-at (suc n) h k j l m rest = go (decLt k n) (piece-at n (λ i o. h i (omega arith)) k j)
     where

@@ -9,10 +9,11 @@ use borrow.Author.Tests.{eq-eqb, ne-eqb}
 use lib.ListN.{length, length-append}
 use lib.Seq.{sets, length-sets}
 use Rattle.netlist.specs.Literals.{literalOf}
+use Rattle.netlist.specs.declared.literals.Literal.{Literal}
+use Rattle.netlist.specs.declared.literals.Variable.{Variable}
 use Rattle.text.proofs.WriterLaws.{sets-append}
 use Rattle.aiger_read.specs.declared.Fault.{Fault}
 use Rattle.aiger_read.specs.declared.Fault.the-variants.{WrongShape}
-use Rattle.aiger_read.specs.declared.Kind.{Kind}
 use Rattle.aiger_read.specs.declared.Kind.the-variants.{Latch, Output}
 use Rattle.aiger_read.specs.declared.Given.{Given}
 use Rattle.aiger_read.specs.declared.LineRead.{LineRead}
@@ -29,12 +30,17 @@ use Rattle.aiger_read.specs.Files.{Rows, rows, failed, behind, andThen, 
 use Rattle.aiger_read.specs.Private.Steps.{numbersIn, rowIn, kindAt, Counted, inputsOf, HeadIs, Took, Within, blockOf, gatesOf, outputsOf, latchesOf}
 
 -- numbers were stored, and then those of x
-pub took-behind : (x : Rows) (ns net after : List ℕ) (place : ℕ) (r : Passed) → Took x (sets net place ns) after (place + length ns) r → Took (behind ns x) net after place r
+took-behind : (x : Rows) (ns net after : List ℕ) (place : ℕ) (r : Passed) → Took x (sets net place ns) after (place + length ns) r → Took (behind ns x) net after place r
 unfolding Took behind
 took-behind (rows ms free q) ns net after place r t =
     let n : place + length ns + length ms ≡ place + length (ns ++ ms) = rw length-append (add-assoc place (length ns) (length ms)) in
     (t .0 ∙ ap (λ (p : ℕ). Past (record { free = free; at = q; place = p })) n, t .1 ∙ sets-append ns ms net place)
 took-behind (failed e line) ns net after place r t = (t .0, t .1 ∙ length-sets net place ns)
+
+-- the place in the netlist after a pass
+abbrev pub place-of : Passed → ℕ
+place-of (Past c) = c .place
+place-of (Failed e n) = 0
 
 -- no cursor is a fault
 pub past-failed : {c : Cursor} {e : Fault} {n : ℕ} → Past c ≡ Failed e n → ⊥
@@ -57,10 +63,6 @@ took-then (rows ns free q) next net mid after place first c r t h u =
     at-of : Passed → ℕ
     at-of (Past d) = d .at
     at-of (Failed e n) = 0
-
-    place-of : Passed → ℕ
-    place-of (Past d) = d .place
-    place-of (Failed e n) = 0
 took-then (failed e line) next net mid after place first c r t h u = absurd (past-failed (sym h ∙ t .0))
 
 pub took-failed : (x : Rows) (next : ℕ → ℕ → Rows) (net mid : List ℕ) (place : ℕ) (first : Passed) (e : Fault) (n : ℕ)
@@ -71,32 +73,33 @@ took-failed (failed e′ line) next net mid place first e n t h = (sym h ∙ t .
 
 -- ---- the outputs and the latches, whose largest literal is made by a call
 
-module _ (s : List ℕ) (h : Head) (from : Cursor) (last : ℕ) (is : last ≡ literalOf (h .variables) true) (net mid : List ℕ) (first : Passed) where
+module _ (s : List ℕ) (h : Head) (from : Cursor) (last : Literal) (is : last .0 ≡ literalOf (h .variables) true) (net mid : List ℕ) (first : Passed) where
   abbrev outputs : Block
-  outputs = record { kind = Output; count = h .outputs; first = 0; line = h .inputs + h .latches + 2 }
+  outputs = record { kind = Output last; count = h .outputs; line = h .inputs + h .latches + 2 }
 
-  abbrev latches : Block
-  latches = record { kind = Latch; count = h .latches; first = h .inputs + 1; line = h .inputs + 2 }
-
-  pub outputs-then : (after : List ℕ) (c : Cursor) (r : Passed) → Took (blockOf s last outputs from) net mid (from .place) first → first ≡ Past c
+  pub outputs-then : (after : List ℕ) (c : Cursor) (r : Passed) → Took (blockOf s outputs from) net mid (from .place) first → first ≡ Past c
       → Took (gatesOf s h (c .free) (c .at)) mid after (c .place) r → Took (outputsOf s h (from .free) (from .at)) net after (from .place) r
   unfolding outputsOf blockOf kindAt
   outputs-then after c r t e u = took-then _ (gatesOf s h) net mid after (from .place) first c r (rw is at t) e u
 
-  pub outputs-failed : (e : Fault) (n : ℕ) → Took (blockOf s last outputs from) net mid (from .place) first → first ≡ Failed e n
+  pub outputs-failed : (e : Fault) (n : ℕ) → Took (blockOf s outputs from) net mid (from .place) first → first ≡ Failed e n
       → Took (outputsOf s h (from .free) (from .at)) net mid (from .place) (Failed e n)
   unfolding outputsOf blockOf kindAt
   outputs-failed e n t f = took-failed _ (gatesOf s h) net mid (from .place) first e n (rw is at t) f
 
-  pub latches-then : (after : List ℕ) (c : Cursor) (r : Passed) → Took (blockOf s last latches from) net mid (from .place) first → first ≡ Past c
-      → Took (outputsOf s h (c .free) (c .at)) mid after (c .place) r → Took (latchesOf s h (from .free) (from .at)) net after (from .place) r
-  unfolding latchesOf blockOf kindAt
-  latches-then after c r t e u = took-then _ (outputsOf s h) net mid after (from .place) first c r (rw is at t) e u
+  module _ (var : Variable) (follows : var .0 ≡ h .inputs + 1) where
+    abbrev latches : Block
+    latches = record { kind = Latch var last; count = h .latches; line = h .inputs + 2 }
 
-  pub latches-failed : (e : Fault) (n : ℕ) → Took (blockOf s last latches from) net mid (from .place) first → first ≡ Failed e n
-      → Took (latchesOf s h (from .free) (from .at)) net mid (from .place) (Failed e n)
-  unfolding latchesOf blockOf kindAt
-  latches-failed e n t f = took-failed _ (outputsOf s h) net mid (from .place) first e n (rw is at t) f
+    pub latches-then : (after : List ℕ) (c : Cursor) (r : Passed) → Took (blockOf s latches from) net mid (from .place) first → first ≡ Past c
+        → Took (outputsOf s h (c .free) (c .at)) mid after (c .place) r → Took (latchesOf s h (from .free) (from .at)) net after (from .place) r
+    unfolding latchesOf blockOf kindAt
+    latches-then after c r t e u = took-then _ (outputsOf s h) net mid after (from .place) first c r (rw (is, follows) at t) e u
+
+    pub latches-failed : (e : Fault) (n : ℕ) → Took (blockOf s latches from) net mid (from .place) first → first ≡ Failed e n
+        → Took (latchesOf s h (from .free) (from .at)) net mid (from .place) (Failed e n)
+    unfolding latchesOf blockOf kindAt
+    latches-failed e n t f = took-failed _ (outputsOf s h) net mid (from .place) first e n (rw (is, follows) at t) f
 
 -- the header, and the lines after it
 pub file-good : (s : List ℕ) (r : HeadRead) (h : Head) → HeadIs s r → r ≡ HeadGood h
@@ -123,15 +126,15 @@ pub took-extra : (s : List ℕ) (line free p : ℕ) (net : List ℕ) (place n : 
 unfolding endOf Took
 took-extra s line free p net place n h e = rw (ne-eqb p (length s) h) (ap (Failed WrongShape) e, refl)
 
--- ---- the line of a kind
+-- ---- a line
 
-pub row-good : (s : List ℕ) (kind : Kind) (last due lit f p : ℕ) (r : LineRead) (g : Given) → rowIn r ≡ kindAt s kind last due f p → r ≡ Good g → due ≡ lit → kindAt s kind last lit f p ≡ row (numbersIn g) (g .free) (g .next)
+pub row-good : (x : Row) (r : LineRead) (g : Given) → rowIn r ≡ x → r ≡ Good g → x ≡ row (numbersIn (g .literals)) (g .free) (g .next)
 unfolding rowIn
-row-good s kind last due lit f p r g e h l = rw (← l) (sym e ∙ ap rowIn h)
+row-good x r g e h = sym e ∙ ap rowIn h
 
-pub row-bad : (s : List ℕ) (kind : Kind) (last due lit f p : ℕ) (r : LineRead) (x : Fault) → rowIn r ≡ kindAt s kind last due f p → r ≡ Bad x → due ≡ lit → kindAt s kind last lit f p ≡ fault x
+pub row-bad : (x : Row) (r : LineRead) (e : Fault) → rowIn r ≡ x → r ≡ Bad e → x ≡ fault e
 unfolding rowIn
-row-bad s kind last due lit f p r x e h l = rw (← l) (sym e ∙ ap rowIn h)
+row-bad x r e i h = sym i ∙ ap rowIn h
 
 -- the bound on a place
 pub within-past : {n : ℕ} {r : Passed} {c : Cursor} → Within n r → r ≡ Past c → c .place ≤ n

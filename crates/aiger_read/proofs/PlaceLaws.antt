@@ -15,7 +15,7 @@ pub record At (s : List ℕ) (p : ℕ) (t : List ℕ) (q : ℕ) : Type 0 where
   pub inside : q ≤ length s
 
 module _ {s : List ℕ} where
-  pub at-none : {p : ℕ} → p ≤ length s → At s p [] p
+  at-none : {p : ℕ} → p ≤ length s → At s p [] p
   at-none h = record { text = refl; place = omega arith; inside = h }
 
   pub at-join : {p q r : ℕ} {t u : List ℕ} → At s p t q → At s q u r → At s p (t ++ u) r

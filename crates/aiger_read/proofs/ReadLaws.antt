@@ -15,9 +15,9 @@ use Rattle.aiger_read.specs.declared.Cursor.{Cursor}
 use Rattle.aiger_read.specs.declared.Passed.{Passed}
 use Rattle.aiger_read.specs.declared.Passed.the-variants.{Past, Failed}
 use Rattle.aiger_read.specs.Files.{Rows, rows, failed, fileRead}
-use Rattle.aiger_read.specs.Read.{readEnd, readAs, readOf}
+use Rattle.aiger_read.specs.Read.{readEnd, maxText, readAs, readOf}
 use Rattle.aiger_read.specs.Private.Steps.{Took}
-use Rattle.aiger_read.proofs.PassLaws.{past-failed}
+use Rattle.aiger_read.proofs.PassLaws.{place-of, past-failed}
 
 none-left : (d : List ℕ) → length d ≡ 0 → d ≡ []
 none-left [] h = refl
@@ -29,16 +29,12 @@ unfolding Took
 dry (rows ns free q) d net r t = rw (t .1, sets-out ns [] 0 (omega arith))
 dry (failed e line) d net r t = rw (none-left d (t .1))
 
-place-of : Passed → ℕ
-place-of (Past c) = c .place
-place-of (Failed e n) = 0
-
 module _ (text net : List ℕ) where
-  pub read-long : 65536 < length text → readEnd (Refused TextTooLong) net ≡ readOf text net
+  pub read-long : maxText < length text → readEnd (Refused TextTooLong) net ≡ readOf text net
   unfolding readOf
-  read-long h = rw (lt-leb (length text) 65536 h)
+  read-long h = rw (lt-leb (length text) maxText h)
 
-  module _ (h : length text ≤ 65536) (d : List ℕ) (first : Passed) where
+  module _ (h : length text ≤ maxText) (d : List ℕ) (first : Passed) where
     failed-as : (x : Rows) (e : Fault) (line : ℕ) → Took x [] d 0 first → first ≡ Failed e line → readEnd (Refused (FaultyLine e line)) net ≡ readAs x net
     unfolding Took readAs
     failed-as (rows ns free q) e line t f = absurd (past-failed (sym (t .0) ∙ f))
@@ -46,10 +42,10 @@ module _ (text net : List ℕ) where
 
     pub read-failed : (e : Fault) (line : ℕ) → Took (fileRead text) [] d 0 first → first ≡ Failed e line → readEnd (Refused (FaultyLine e line)) (d ++ net) ≡ readOf text net
     unfolding readOf
-    read-failed e line t f = rw (dry (fileRead text) d net first t, le-leb (length text) 65536 h) (failed-as (fileRead text) e line t f)
+    read-failed e line t f = rw (dry (fileRead text) d net first t, le-leb (length text) maxText h) (failed-as (fileRead text) e line t f)
 
     short-as : (x : Rows) (c : Cursor) → Took x [] d 0 first → first ≡ Past c → length net < c .place → readEnd (Refused ShortBuffer) net ≡ readAs x net
-    unfolding Took readAs place-of
+    unfolding Took readAs
     short-as (rows ns free q) c t f l =
         let n : c .place ≡ 0 + length ns = ap place-of (sym f ∙ t .0) in
         rw (lt-leb (length ns) (length net) (omega arith))
@@ -59,10 +55,10 @@ module _ (text net : List ℕ) where
     unfolding readOf
     read-short c t f l =
         let same = dry (fileRead text) d net first t in
-        rw (same, le-leb (length text) 65536 h) (short-as (fileRead text) c t f (rw same at l))
+        rw (same, le-leb (length text) maxText h) (short-as (fileRead text) c t f (rw same at l))
 
     done-as : (x : Rows) (c : Cursor) (after : List ℕ) (r : Passed) → Took x [] d 0 first → first ≡ Past c → c .place ≤ length net → Took x net after 0 r → readEnd (Numbers (c .place)) after ≡ readAs x net
-    unfolding Took readAs place-of
+    unfolding Took readAs
     done-as (rows ns free q) c after r t f l u =
         let n : c .place ≡ 0 + length ns = ap place-of (sym f ∙ t .0) in
         let m : c .place ≡ length ns = n ∙ zero-add (length ns) in
@@ -76,4 +72,4 @@ module _ (text net : List ℕ) where
     unfolding readOf
     read-done c after r t f l u =
         let same = dry (fileRead text) d net first t in
-        rw (le-leb (length text) 65536 h) (done-as (fileRead text) c after r t f (rw same at l) (rw same at u))
+        rw (le-leb (length text) maxText h) (done-as (fileRead text) c after r t f (rw same at l) (rw same at u))

@@ -1,25 +1,27 @@
--- What is stored of the numbers of a line. Assumes nothing.
+-- What is stored of the literals of a line. Assumes nothing.
 use mathlib.Core.Path.{_≡_, refl}
 use mathlib.Core.List.{List, [], _∷_}
-use Prim.Native.Nat.{ℕ, zero, suc, _+_, _≤_}
+use Prim.Native.Nat.{ℕ, _+_, _≤_}
 use native.Mathlib.Omega.{arith}
 use lib.ListN.{length, set}
 use lib.Seq.{sets}
-use Rattle.aiger_read.specs.Private.Steps.{numbersOf}
+use Rattle.netlist.specs.declared.literals.Literal.{Literal}
+use Rattle.aiger_read.specs.declared.Literals.{Literals}
+use Rattle.aiger_read.specs.declared.Literals.the-variants.{None, One, Two}
+use Rattle.aiger_read.specs.Private.Steps.{numbersIn}
 
-abbrev pub Stored : ℕ → ℕ → ℕ → List ℕ → List ℕ → ℕ → ℕ → Type 0
-Stored n a b net after at r = (after ≡ sets net at (numbersOf n a b)) × (r ≡ at + length (numbersOf n a b)) × (r ≤ at + 2)
+abbrev pub Stored : Literals → List ℕ → List ℕ → ℕ → ℕ → Type 0
+Stored g net after at r = (after ≡ sets net at (numbersIn g)) × (r ≡ at + length (numbersIn g)) × (r ≤ at + 2)
 
-pub stores-none : (n a b : ℕ) (net : List ℕ) (at : ℕ) → n ≡ 0 → Stored n a b net net at at
-unfolding numbersOf
-stores-none n a b net at h = rw (h, numbersOf) (refl, omega arith, omega arith)
+module _ (g : Literals) (net : List ℕ) (at : ℕ) where
+  pub stores-none : g ≡ None → Stored g net net at at
+  unfolding numbersIn
+  stores-none h = rw h (refl, omega arith, omega arith)
 
-pub stores-one : (n a b : ℕ) (net : List ℕ) {after : List ℕ} (at : ℕ) → n ≡ 1 → after ≡ set net at a → Stored n a b net after at (at + 1)
-unfolding numbersOf
-stores-one n a b net at h e = rw (h, numbersOf) (e, refl, omega arith)
+  pub stores-one : {a : Literal} {after : List ℕ} → g ≡ One a → after ≡ set net at (a .0) → Stored g net after at (at + 1)
+  unfolding numbersIn
+  stores-one h e = rw h (e, refl, omega arith)
 
-pub stores-two : (n a b : ℕ) (net : List ℕ) {after : List ℕ} (at : ℕ) → (n ≡ 0 → ⊥) → (n ≡ 1 → ⊥) → after ≡ sets net at (a ∷ b ∷ []) → Stored n a b net after at (at + 2)
-unfolding numbersOf
-stores-two zero a b net at x y e = absurd (x refl)
-stores-two (suc zero) a b net at x y e = absurd (y refl)
-stores-two (suc (suc m)) a b net at x y e = (e, refl, omega arith)
+  pub stores-two : {a b : Literal} {after : List ℕ} → g ≡ Two a b → after ≡ sets net at (a .0 ∷ b .0 ∷ []) → Stored g net after at (at + 2)
+  unfolding numbersIn
+  stores-two h e = rw h (e, refl, omega arith)

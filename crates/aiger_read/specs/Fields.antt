@@ -1,6 +1,6 @@
 -- The shape of an AIGER line at a place of a text: so many numbers, parted by single blanks, and an LF.
 -- Assumes nothing.
-use mathlib.Core.Bool.{Bool, true, false, cond}
+use mathlib.Core.Bool.{cond}
 use mathlib.Core.List.{List, [], _∷_}
 use Prim.Native.Nat.{ℕ, zero, suc, _+_}
 use lib.Dec.{eqb}

@@ -1,8 +1,8 @@
 -- What an AIGER line says: the numbers of the netlist that it gives, or its fault. A wrong shape is 13,
 -- a right shape that breaks order or limits 14. Assumes nothing.
-use mathlib.Core.Bool.{Bool, true, false, cond, not, _&&_, _||_}
-use mathlib.Core.List.{List, [], _∷_, _++_}
-use Prim.Native.Nat.{ℕ, zero, suc, _+_}
+use mathlib.Core.Bool.{Bool, cond, _&&_, _||_}
+use mathlib.Core.List.{List, [], _∷_}
+use Prim.Native.Nat.{ℕ, _+_}
 use lib.Dec.{eqb, leb, ltb}
 use lib.ListN.{getD}
 use Rattle.aiger_read.specs.declared.Fault.{Fault}

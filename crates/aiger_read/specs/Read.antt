@@ -8,7 +8,6 @@ use lib.Dec.{leb}
 use lib.ListN.{length, drop}
 use Rattle.text.specs.declared.Refusal.{Refusal}
 use Rattle.aiger_read.specs.Files.{Rows, rows, failed, fileRead}
-use Rattle.aiger_read.specs.declared.Fault.{Fault}
 use Rattle.aiger_read.specs.declared.Fault.the-variants.{WrongShape, OutOfLimits}
 use Rattle.aiger_read.specs.declared.Cause.{Cause}
 use Rattle.aiger_read.specs.declared.Cause.the-variants.{TextTooLong, ShortBuffer, FaultyLine}
@@ -30,6 +29,10 @@ pub record ReadEnd : Type 0 where
 abbrev pub readEnd : ReadOutcome → List ℕ → ReadEnd
 readEnd r n = record { answer = r; net = n }
 
+-- the longest text
+abbrev pub maxText : ℕ
+maxText = 65536
+
 unfoldable pub readAs : Rows → List ℕ → ReadEnd
 readAs (failed e line) net = readEnd (Refused (FaultyLine e line)) net
 readAs (rows ns free q) net =
@@ -38,4 +41,4 @@ readAs (rows ns free q) net =
 
 unfoldable pub readOf : List ℕ → List ℕ → ReadEnd
 readOf text net =
-    cond (not (leb (length text) 65536)) (readEnd (Refused TextTooLong) net) (readAs (fileRead text) net)
+    cond (not (leb (length text) maxText)) (readEnd (Refused TextTooLong) net) (readAs (fileRead text) net)

@@ -3,11 +3,11 @@
 use crate::Block;
 use crate::Cursor;
 use crate::Fault;
-use crate::Given;
 use crate::Head;
 use crate::HeadRead;
 use crate::Kind;
 use crate::LineRead;
+use crate::Literals;
 use crate::Passed;
 use crate::lines::header_at;
 use crate::lines::line_of;
@@ -18,7 +18,7 @@ ghost use Prim.Native.Nat.{_+_, _*_, _<_, _≤_};
 ghost use lib.ListN.{length, set};
 ghost use lib.Seq.{sets};
 ghost use Rattle.aiger_read.specs.Files.{fileRead};
-ghost use Rattle.aiger_read.specs.Private.Steps.{numbersIn, blockOf, inputsOf, latchesOf, outputsOf, gatesOf, Took, Within, Counted};
+ghost use Rattle.aiger_read.specs.Private.Steps.{numbersIn, firstOf, blockOf, inputsOf, latchesOf, outputsOf, gatesOf, Took, Within, Counted};
 
 // How many numbers the header gives.
 const HEADER: usize = 5;
@@ -41,20 +41,22 @@ fn store_pair(net: &mut [u16], at: usize, a: u16, b: u16)
     store(net, at + 1, b);
 }
 
-// The numbers of a line; the place after them.
-fn store_given(net: &mut [u16], at: usize, given: Given) -> usize
+// The literals of a line; the place after them.
+fn store_given(net: &mut [u16], at: usize, given: Literals) -> usize
     requires { ⌜ at ≤ 200000 ⌝ }
     ensures { λ r. ⌜ (now (net .exit) ≡ sets (now (net .entry)) at (numbersIn given)) × (r ≡ at + length (numbersIn given)) × (r ≤ at + 2) ⌝ }
 {
-    if given.count == 0 {
-        return at;
+    match given {
+        Literals::None => at,
+        Literals::One(lit) => {
+            store(net, at, lit.0);
+            at + 1
+        }
+        Literals::Two(first, second) => {
+            store_pair(net, at, first.0, second.0);
+            at + 2
+        }
     }
-    if given.count == 1 {
-        store(net, at, given.first);
-        return at + 1;
-    }
-    store_pair(net, at, given.first, given.second);
-    at + 2
 }
 
 // The numbers of the header.
@@ -66,10 +68,10 @@ fn store_head(net: &mut [u16], head: Head)
     store(net, 4, head.gates);
 }
 
-// The lines of a block, whose numbers are stored from `from.place` on. `last` is the largest literal.
-fn block_at(s: &[u8], net: &mut [u16], last: u16, block: Block, from: Cursor) -> Passed
-    requires { ⌜ (block .count + block .first ≤ 32768) × (block .line ≤ 100000) × (from .place ≤ 50000) ⌝ }
-    ensures { λ r. ⌜ Took (blockOf (now (s .entry)) last block from) (now (net .entry)) (now (net .exit)) (from .place) r ⌝ }
+// The lines of a block, whose literals are stored from `from.place` on.
+fn block_at(s: &[u8], net: &mut [u16], block: Block, from: Cursor) -> Passed
+    requires { ⌜ (firstOf (block .kind) + block .count ≤ 32768) × (block .line ≤ 100000) × (from .place ≤ 50000) ⌝ }
+    ensures { λ r. ⌜ Took (blockOf (now (s .entry)) block from) (now (net .entry)) (now (net .exit)) (from .place) r ⌝ }
     ensures { λ r. ⌜ Within (from .place + 2 * block .count) r ⌝ }
 {
     let kind = block.kind;
@@ -78,10 +80,10 @@ fn block_at(s: &[u8], net: &mut [u16], last: u16, block: Block, from: Cursor) ->
     let mut at = from.at;
     let mut place = from.place;
     for k in 0..count {
-        let lit = Variable(block.first + k).literal(false);
-        match line_of(s, kind, last, lit.0, free, at) {
+        match line_of(s, kind, k, free, at) {
             LineRead::Good(given) => {
-                place = store_given(net, place, given);
+                let literals = given.literals;
+                place = store_given(net, place, literals);
                 free = given.free;
                 at = given.next;
             }
@@ -104,12 +106,11 @@ fn gates_at(s: &[u8], net: &mut [u16], head: Head, from: Cursor) -> Passed
 {
     let line = head.inputs as u32 + head.latches as u32 + head.outputs as u32 + 2;
     let gates = Block {
-        kind: Kind::Gate,
+        kind: Kind::Gate(Variable(head.inputs + head.latches + 1)),
         count: head.gates,
-        first: head.inputs + head.latches + 1,
         line: line,
     };
-    match block_at(s, net, 0, gates, from) {
+    match block_at(s, net, gates, from) {
         Passed::Past(end) => {
             if end.at == s.len() {
                 Passed::Past(end)
@@ -128,12 +129,11 @@ fn outputs_at(s: &[u8], net: &mut [u16], head: Head, from: Cursor) -> Passed
 {
     let last = Variable(head.variables).literal(true);
     let outputs = Block {
-        kind: Kind::Output,
+        kind: Kind::Output(last),
         count: head.outputs,
-        first: 0,
         line: head.inputs as u32 + head.latches as u32 + 2,
     };
-    match block_at(s, net, last.0, outputs, from) {
+    match block_at(s, net, outputs, from) {
         Passed::Past(next) => gates_at(s, net, head, next),
         Passed::Failed(fault, n) => Passed::Failed(fault, n),
     }
@@ -146,12 +146,11 @@ fn latches_at(s: &[u8], net: &mut [u16], head: Head, from: Cursor) -> Passed
 {
     let last = Variable(head.variables).literal(true);
     let latches = Block {
-        kind: Kind::Latch,
+        kind: Kind::Latch(Variable(head.inputs + 1), last),
         count: head.latches,
-        first: head.inputs + 1,
         line: head.inputs as u32 + 2,
     };
-    match block_at(s, net, last.0, latches, from) {
+    match block_at(s, net, latches, from) {
         Passed::Past(next) => outputs_at(s, net, head, next),
         Passed::Failed(fault, n) => Passed::Failed(fault, n),
     }
@@ -163,9 +162,8 @@ fn inputs_at(s: &[u8], net: &mut [u16], head: Head) -> Passed
     ensures { λ r. ⌜ Took (inputsOf (now (s .entry)) head) (now (net .entry)) (now (net .exit)) 5 r ⌝ }
 {
     let inputs = Block {
-        kind: Kind::Input,
+        kind: Kind::Input(Variable(1)),
         count: head.inputs,
-        first: 1,
         line: 2,
     };
     let from = Cursor {
@@ -173,7 +171,7 @@ fn inputs_at(s: &[u8], net: &mut [u16], head: Head) -> Passed
         at: head.next,
         place: HEADER,
     };
-    match block_at(s, net, 0, inputs, from) {
+    match block_at(s, net, inputs, from) {
         Passed::Past(next) => latches_at(s, net, head, next),
         Passed::Failed(fault, n) => Passed::Failed(fault, n),
     }

@@ -1,6 +1,8 @@
 // The reader of the AIGER ASCII format: a file's netlist into a lent buffer of 16-bit numbers. Knows
 // nothing of graphs. Exports that it takes exactly the files of netlists, explicit resets 0 allowed, and
 // that reading what was written gives the same numbers.
+use netlist::Literal;
+use netlist::Variable;
 use text::Refusal;
 ghost use mathlib.Core.Path.{_≡_};
 ghost use Rattle.aiger_read.specs.Read.{refusalOf, readEnd, readOf};
@@ -59,6 +61,30 @@ pub enum ReadOutcome {
     Refused(Cause),
 }
 
+// The longest text.
+const MAX_TEXT: usize = 65536;
+
+// Reads the netlist of a file to the front of a lent buffer. A first pass stores nothing, so that a
+// refusal leaves the buffer as it was.
+pub fn read(text: &[u8], net: &mut [u16]) -> ReadOutcome
+    ensures { λ r. ⌜ readEnd r (now (net .exit)) ≡ readOf (now (text .entry)) (now (net .entry)) ⌝ }
+    ensures exact { λ _. ⌜ ReadMeans ⌝ }
+{
+    if text.len() > MAX_TEXT {
+        return ReadOutcome::Refused(Cause::TextTooLong);
+    }
+    match files::read_file(text, &mut net[..0]) {
+        Passed::Past(end) => {
+            if end.place > net.len() {
+                return ReadOutcome::Refused(Cause::ShortBuffer);
+            }
+            files::read_file(text, net);
+            ReadOutcome::Numbers(end.place)
+        }
+        Passed::Failed(fault, line) => ReadOutcome::Refused(Cause::FaultyLine(fault, line)),
+    }
+}
+
 // The numbers of a line, 0 where there is none, and the place after its LF; or another shape.
 struct Line {
     formed: bool,
@@ -66,20 +92,25 @@ struct Line {
     next: usize,
 }
 
-// The kinds of lines after the header.
+// The kinds of lines after the header. Those of inputs, latches and gates have the variable of the first
+// one, and those of latches and outputs the largest literal.
 enum Kind {
-    Input,
-    Latch,
-    Output,
-    Gate,
+    Input(Variable),
+    Latch(Variable, Literal),
+    Output(Literal),
+    Gate(Variable),
 }
 
-// What a line gives: `count` numbers of the netlist, the uninitialised latches so far, and the place
-// after the line.
+// What a line gives to the netlist: nothing, an output, or a latch's next and reset or a gate's operands.
+enum Literals {
+    None,
+    One(Literal),
+    Two(Literal, Literal),
+}
+
+// A line's literals, the uninitialised latches so far, and the place after the line.
 struct Given {
-    count: u8,
-    first: u16,
-    second: u16,
+    literals: Literals,
     free: usize,
     next: usize,
 }
@@ -106,12 +137,10 @@ enum HeadRead {
     Bad(Fault),
 }
 
-// Lines of one kind: how many, and the variable and the line number of the first. An output has no
-// variable of its own.
+// Lines of one kind: how many, and the line number of the first.
 struct Block {
     kind: Kind,
     count: u16,
-    first: u16,
     line: u32,
 }
 
@@ -126,28 +155,4 @@ struct Cursor {
 enum Passed {
     Past(Cursor),
     Failed(Fault, u32),
-}
-
-// The longest text.
-const MAX_TEXT: usize = 65536;
-
-// Reads the netlist of a file to the front of a lent buffer. A first pass stores nothing, so that a
-// refusal leaves the buffer as it was.
-pub fn read(text: &[u8], net: &mut [u16]) -> ReadOutcome
-    ensures { λ r. ⌜ readEnd r (now (net .exit)) ≡ readOf (now (text .entry)) (now (net .entry)) ⌝ }
-    ensures exact { λ _. ⌜ ReadMeans ⌝ }
-{
-    if text.len() > MAX_TEXT {
-        return ReadOutcome::Refused(Cause::TextTooLong);
-    }
-    match files::read_file(text, &mut net[..0]) {
-        Passed::Past(end) => {
-            if end.place > net.len() {
-                return ReadOutcome::Refused(Cause::ShortBuffer);
-            }
-            files::read_file(text, net);
-            ReadOutcome::Numbers(end.place)
-        }
-        Passed::Failed(fault, line) => ReadOutcome::Refused(Cause::FaultyLine(fault, line)),
-    }
 }

@@ -1,21 +1,26 @@
-// Where the numbers of a netlist's header stand.
+// The numbers of a netlist's header, by their places.
 ghost use mathlib.Core.Path.{_≡_};
-ghost use mathlib.Core.Bool.{true};
-ghost use Prim.Native.Nat.{_<_, _≤_};
+ghost use Prim.Native.Nat.{_≤_};
 ghost use lib.ListN.{getD};
-ghost use Rattle.netlist.specs.Valid.{isNetlist};
 
+// The places of M, I, L, O and A.
 pub(crate) const MAXIMUM: usize = 0;
 
-pub(crate) const INPUTS: usize = 1;
+pub const INPUTS: usize = 1;
 
-pub(crate) const LATCHES: usize = 2;
+pub const LATCHES: usize = 2;
 
-// The number at a place of a netlist's header.
-pub(crate) fn header(net: &[u16], place: usize) -> usize
-    requires { ⌜ isNetlist (now net) ≡ true ⌝ }
-    requires { ⌜ place < 5 ⌝ }
+pub const OUTPUTS: usize = 3;
+
+pub const GATES: usize = 4;
+
+// The number at a place, or 0 past the end.
+pub fn header(net: &[u16], place: usize) -> usize
     ensures { λ r. ⌜ (r ≡ getD (now (net .entry)) place 0) × (r ≤ 65535) ⌝ }
 {
-    net[place] as usize
+    if place < net.len() {
+        net[place] as usize
+    } else {
+        0
+    }
 }

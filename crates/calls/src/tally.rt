@@ -12,7 +12,7 @@ pub struct Tally {
 const MAX_COUNT: usize = 4294967295;
 
 // A word with a 1 in every lane.
-const ALL_LANES: u64 = 18446744073709551615;
+pub const ALL_LANES: u64 = 18446744073709551615;
 
 // Whether a cycle with this output word is rejected: some lane is 0.
 pub fn is_rejected(word: u64) -> bool

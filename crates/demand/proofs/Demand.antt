@@ -29,12 +29,14 @@ use Rattle.calls.specs.declared.refusal.Checked.the-variants.{Passed, Failed}
 use Rattle.calls.specs.declared.tally.Tally.{Tally}
 use Rattle.calls.specs.Tallies.{cleared}
 use Rattle.trace.specs.Traces.{cyclesOf}
+use Rattle.trace.specs.Claims.{Cycles}
 use Rattle.calls.specs.Refusals.{startCheck, stepCheck, runCheck}
 use Rattle.simulator.specs.declared.outcome.StartOutcome.the-variants.{Ready}
 use Rattle.simulator.specs.Start.{startBit, startWords, startAs, startOf}
 use Rattle.simulator.specs.Step.{stepAs, stepOf}
 use Rattle.simulator.specs.Run.{running, runCycles, ranTo, runAs, runOf}
-use Rattle.trace.proofs.TraceLaws.{cycle-length, Cycles, lines-are-cycles}
+use Rattle.trace.proofs.TraceLaws.{cycle-length}
+use Rattle.trace.proofs.LineLaws.{lines-are-cycles}
 use Rattle.calls.proofs.RefusalLaws.{step-passed, run-passed}
 use Rattle.simulator.proofs.StartLaws.{length-starts, start-at}
 use Rattle.demand.specs.Calls.{Call, stepCall, runCall, Kept, Called, called, stepGives, runGives}

@@ -16,9 +16,9 @@ pub fn start(net: &[u16], latches: &mut [u64], tally: &mut Tally) -> StartOutcom
     ensures { λ r. ⌜ startEnd (record { outcome = r; tally = now (tally .exit) }) (now (latches .exit)) ≡ startOf (now (net .entry)) (now (latches .entry)) (now (tally .entry)) ⌝ }
 {
     let t = *tally;
-    let s = simulator::start(net, latches, t);
-    *tally = s.tally;
-    s.outcome
+    let started = simulator::start(net, latches, t);
+    *tally = started.tally;
+    started.outcome
 }
 
 // Runs one cycle and brings the tally up to date, which a refusal leaves as it was.
@@ -32,9 +32,9 @@ pub fn step(
     ensures { λ r. ⌜ stepEnd (record { outcome = r; tally = now (tally .exit) }) (now (latches .exit)) (now (values .exit)) ≡ stepOf (now (net .entry)) (now (cycle .entry)) (now (latches .entry)) (now (values .entry)) (now (tally .entry)) ⌝ }
 {
     let t = *tally;
-    let s = simulator::step(net, cycle, latches, values, t);
-    *tally = s.tally;
-    s.outcome
+    let stepped = simulator::step(net, cycle, latches, values, t);
+    *tally = stepped.tally;
+    stepped.outcome
 }
 
 // Runs a trace and brings the tally up to date, which a refusal leaves as it was.
@@ -49,7 +49,7 @@ pub fn run(
     ensures { λ r. ⌜ runEnd (record { outcome = r; tally = now (tally .exit) }) (now (latches .exit)) (now (values .exit)) (now (verdicts .exit)) ≡ runOf (now (net .entry)) (now (trace .entry)) (now (latches .entry)) (now (values .entry)) (now (verdicts .entry)) (now (tally .entry)) ⌝ }
 {
     let t = *tally;
-    let s = simulator::run(net, trace, latches, values, verdicts, t);
-    *tally = s.tally;
-    s.outcome
+    let ran = simulator::run(net, trace, latches, values, verdicts, t);
+    *tally = ran.tally;
+    ran.outcome
 }

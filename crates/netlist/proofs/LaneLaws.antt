@@ -119,15 +119,6 @@ lane-number (suc k) zero f h = low-bit (f zero) _
 lane-number (suc k) (suc n) f h =
     ap (lane n) (high-bits (f zero) _) ∙ lane-number k n (λ m. f (suc m)) (omega arith)
 
-digit-lt : (b : Bool) (x m : ℕ) → x < m → cond b 1 0 + 2 * x < m * 2
-digit-lt true x m h = omega arith
-digit-lt false x m h = omega arith
-
-pub number-lt : (k : ℕ) (f : ℕ → Bool) → numberOf k f < 2 ^ k
-unfolding numberOf
-number-lt zero f = omega arith
-number-lt (suc k) f = rw (pow-suc 2 k) (digit-lt (f zero) (numberOf k (λ n. f (suc n))) (2 ^ k) (number-lt k (λ n. f (suc n))))
-
 pub number-same : (k : ℕ) (f g : ℕ → Bool) → ((n : ℕ) → n < k → f n ≡ g n) → numberOf k f ≡ numberOf k g
 unfolding numberOf
 number-same zero f g h = refl
@@ -139,10 +130,6 @@ number-same (suc k) f g h =
 pub lane-word : (n : ℕ) (f : ℕ → Bool) → n < 64 → lane n (wordOf f) ≡ f n
 unfolding wordOf
 lane-word n f h = lane-number 64 n f h
-
-pub word-lt : (f : ℕ → Bool) → wordOf f < 2 ^ 64
-unfolding wordOf
-word-lt f = number-lt 64 f
 
 pub word-same : (f g : ℕ → Bool) → ((n : ℕ) → n < 64 → f n ≡ g n) → wordOf f ≡ wordOf g
 unfolding wordOf

@@ -79,8 +79,8 @@ module _ (net cycle latches values : List ℕ) (t : Tally) where
     unfolding outputWord outputOf
     lane-output = lit-hom words bools (lane n) (lane-hom n h) W (getD net (outputAt net 0) 0)
 
-    shown : (e : StepEnd) → e .latches ≡ latchesAfter net cycle latches → e .values ≡ valuesAfter net cycle latches values → LaneOfStep n net cycle latches e
-    shown e el ev =
+    shown : (e : StepEnd) → e .answer .outcome ≡ Output (outputWord net cycle latches) → e .latches ≡ latchesAfter net cycle latches → e .values ≡ valuesAfter net cycle latches values → LaneOfStep n net cycle latches e
+    shown e eo el ev =
         let one = means net .aiger (r .netlist) ins held (length-map cycle (bitOf bools) ∙ cycle-length (inputCount net) cycle (r .bits)) (length-map (take (latchCount net) latches) (lane n) ∙ length-take-le (latchCount net) latches (r .latches)) in
         let same : map (lane n) (take (maximum net + 1) (e .values)) ≡ valuesOf bools net ins held = ap (λ (x : List ℕ). map (lane n) (take (maximum net + 1) x)) ev ∙ lane-front in
         let front : map (lane n) (take (maximum net + 1) (e .values)) ≡ map (lane n) W = same ∙ sym lane-words in
@@ -88,6 +88,8 @@ module _ (net cycle latches values : List ℕ) (t : Tally) where
           values = rw same (one .satisfies);
           only = λ v s. one .only v s ∙ sym same;
           next = λ k l. ap (λ (x : List ℕ). lane n (getD x k 0)) el ∙ lane-next k l ∙ ap (λ (x : List Bool). litOf bools x (getD net (nextAt k) 0)) (sym front);
+          word = outputWord net cycle latches;
+          answered = eo;
           output = lane-output ∙ ap (λ (x : List Bool). litOf bools x (getD net (outputAt net 0) 0)) (sym front);
         }
 
@@ -96,4 +98,4 @@ module _ (net cycle latches values : List ℕ) (t : Tally) where
   step-means e n h =
       let s = step-is e in
       shown (step-passed net cycle (length latches) (length values) t (stepCheck net cycle (length latches) (length values) t) refl e) n h (stepOf net cycle latches values t)
-      (sym (ap (λ (x : StepEnd). x .latches) s)) (sym (ap (λ (x : StepEnd). x .values) s))
+      (sym (ap (λ (x : StepEnd). x .answer .outcome) s)) (sym (ap (λ (x : StepEnd). x .latches) s)) (sym (ap (λ (x : StepEnd). x .values) s))

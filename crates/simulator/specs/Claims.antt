@@ -1,6 +1,6 @@
 -- What the contracts of start, step and run claim of their definitions. Assumes nothing.
 use mathlib.Core.Path.{_≡_}
-use mathlib.Core.Bool.{Bool, true, false, not}
+use mathlib.Core.Bool.{Bool}
 use mathlib.Core.List.{List, [], _∷_, _++_, map}
 use Prim.Native.Nat.{ℕ, _+_, _<_}
 use lib.ListN.{length, getD, take}
@@ -8,16 +8,15 @@ use Rattle.netlist.specs.Layout.{maximum, inputCount, latchCount, nextAt, outpu
 use Rattle.netlist.specs.Lanes.{lane}
 use Rattle.netlist.specs.Meaning.{bools, bitOf, litOf}
 use Rattle.netlist.specs.Aiger.{Satisfies}
-use Rattle.calls.specs.declared.refusal.Checked.{Checked}
-use Rattle.calls.specs.declared.refusal.Checked.the-variants.{Passed, Failed}
+use Rattle.calls.specs.declared.refusal.Cause.{Cause}
+use Rattle.calls.specs.declared.refusal.Checked.the-variants.{Passed}
 use Rattle.simulator.specs.declared.outcome.StepOutcome.{StepOutcome}
 use Rattle.simulator.specs.declared.outcome.StepOutcome.the-variants.{Output, Refused}
 use Rattle.calls.specs.declared.tally.Tally.{Tally}
-use Rattle.calls.specs.Tallies.{isRejected}
 use Rattle.trace.specs.Traces.{cyclesOf}
 use Rattle.calls.specs.Refusals.{startCheck, stepCheck, runCheck}
 use Rattle.simulator.specs.Start.{startBit, startOf}
-use Rattle.simulator.specs.Step.{StepEnd, outputWord, stepOf}
+use Rattle.simulator.specs.Step.{StepEnd, stepOf}
 use Rattle.simulator.specs.Run.{Running, running, verdictByte, ranTo, runOf}
 
 -- ---- start: each lane of each latch starts with its bit
@@ -27,17 +26,23 @@ StartMeans net latches t =
     → lane n (getD (startOf net latches t .latches) k 0) ≡ startBit net k n
 
 -- ---- step: what lane n of a step that is not refused shows
+-- lane n of the latches before it, and of the values that it leaves
+abbrev pub laneHeld : ℕ → List ℕ → List ℕ → List Bool
+laneHeld n net latches = map (lane n) (take (latchCount net) latches)
+
+abbrev pub laneSeen : ℕ → List ℕ → StepEnd → List Bool
+laneSeen n net end = map (lane n) (take (maximum net + 1) (end .values))
+
 pub record LaneOfStep (n : ℕ) (net cycle latches : List ℕ) (end : StepEnd) : Type 0 where
-  -- its value words are a valuation that satisfies AIGER's equations for the cycle's inputs and the
-  -- latches before, and no other valuation does
-  pub values : Satisfies net (map (bitOf bools) cycle) (map (lane n) (take (latchCount net) latches)) (map (lane n) (take (maximum net + 1) (end .values)))
-  pub only : (v : List Bool) → Satisfies net (map (bitOf bools) cycle) (map (lane n) (take (latchCount net) latches)) v
-      → v ≡ map (lane n) (take (maximum net + 1) (end .values))
-  -- each latch takes the value of its next literal, all of them under that valuation
-  pub next : (k : ℕ) → k < latchCount net
-      → lane n (getD (end .latches) k 0) ≡ litOf bools (map (lane n) (take (maximum net + 1) (end .values))) (getD net (nextAt k) 0)
-  -- and the output word the value of the output literal
-  pub output : lane n (outputWord net cycle latches) ≡ litOf bools (map (lane n) (take (maximum net + 1) (end .values))) (getD net (outputAt net 0) 0)
+  -- the values satisfy AIGER's equations for the cycle's inputs and the latches before, and no others do
+  pub values : Satisfies net (map (bitOf bools) cycle) (laneHeld n net latches) (laneSeen n net end)
+  pub only : (v : List Bool) → Satisfies net (map (bitOf bools) cycle) (laneHeld n net latches) v → v ≡ laneSeen n net end
+  -- each latch takes the value of its next literal, all of them under these values
+  pub next : (k : ℕ) → k < latchCount net → lane n (getD (end .latches) k 0) ≡ litOf bools (laneSeen n net end) (getD net (nextAt k) 0)
+  -- and the word that is answered has the value of the output literal
+  pub word : ℕ
+  pub answered : end .answer .outcome ≡ Output word
+  pub output : lane n word ≡ litOf bools (laneSeen n net end) (getD net (outputAt net 0) 0)
 
 abbrev pub StepMeans : List ℕ → List ℕ → List ℕ → List ℕ → Tally → Type 0
 StepMeans net cycle latches values t =
@@ -45,20 +50,32 @@ StepMeans net cycle latches values t =
     → LaneOfStep n net cycle latches (stepOf net cycle latches values t)
 
 -- ---- run: a run that is not refused is its steps, one after another
--- what a run holds after a step; a refused step changes nothing
-unfoldable pub afterOutcome : StepOutcome → StepEnd → Running → Running
-afterOutcome (Output w) e r = running (e .latches) (e .values) (r .bytes ++ (verdictByte w ∷ [])) (e .answer .tally)
-afterOutcome (Refused cause) e r = r
+-- what steps come to: what a run holds after them, or a refusal
+pub data Steps : Type 0 where
+  went : Running → Steps
+  refusedAt : Cause → Steps
 
-unfoldable pub afterStep : StepEnd → Running → Running
-afterStep e r = afterOutcome (e .answer .outcome) e r
+-- after a step that ended so, where the run had these bytes
+unfoldable pub afterStep : StepOutcome → StepEnd → List ℕ → Steps
+afterStep (Output w) e bytes = went (running (e .latches) (e .values) (bytes ++ (verdictByte w ∷ [])) (e .answer .tally))
+afterStep (Refused cause) e bytes = refusedAt cause
 
--- one step for each cycle
-unfoldable pub steps : List ℕ → Running → List (List ℕ) → Running
-steps net r [] = r
-steps net r (c ∷ cs) = steps net (afterStep (stepOf net c (r .latches) (r .values) (r .tally)) r) cs
+-- one step more, unless one was refused
+unfoldable pub oneMore : List ℕ → List ℕ → Steps → Steps
+oneMore net c (went r) = let e = stepOf net c (r .latches) (r .values) (r .tally) in afterStep (e .answer .outcome) e (r .bytes)
+oneMore net c (refusedAt cause) = refusedAt cause
+
+-- one for each cycle
+unfoldable pub steps : List ℕ → Steps → List (List ℕ) → Steps
+steps net s [] = s
+steps net s (c ∷ cs) = steps net (oneMore net c s) cs
+
+-- no step is refused, and the run answers and leaves what the last one comes to
+pub record StepsOfRun (net trace latches values verdicts : List ℕ) (t : Tally) : Type 0 where
+  pub last : Running
+  pub stepped : steps net (went (running latches values [] t)) (cyclesOf (inputCount net) trace) ≡ went last
+  pub ended : runOf net trace latches values verdicts t ≡ ranTo last verdicts
 
 abbrev pub RunIsSteps : List ℕ → List ℕ → List ℕ → List ℕ → List ℕ → Tally → Type 0
 RunIsSteps net trace latches values verdicts t =
-    runCheck net trace (length latches) (length values) (length verdicts) t ≡ Passed
-    → runOf net trace latches values verdicts t ≡ ranTo (steps net (running latches values [] t) (cyclesOf (inputCount net) trace)) verdicts
+    runCheck net trace (length latches) (length values) (length verdicts) t ≡ Passed → StepsOfRun net trace latches values verdicts t

@@ -10,7 +10,6 @@ use Rattle.calls.specs.declared.refusal.Checked.{Checked}
 use Rattle.calls.specs.declared.refusal.Checked.the-variants.{Passed, Failed}
 use Rattle.simulator.specs.declared.outcome.Verdict.{Verdict}
 use Rattle.simulator.specs.declared.outcome.Verdict.the-variants.{Accepted, Rejected}
-use Rattle.simulator.specs.declared.outcome.RunOutcome.{RunOutcome}
 use Rattle.simulator.specs.declared.outcome.RunOutcome.the-variants.{Done, Refused}
 use Rattle.simulator.specs.declared.outcome.Ran.{Ran}
 use Rattle.calls.specs.declared.tally.Tally.{Tally}

@@ -9,7 +9,6 @@ use Rattle.netlist.specs.Lanes.{lane, wordOf}
 use Rattle.netlist.specs.Valid.{isFree, freeCount}
 use Rattle.calls.specs.declared.refusal.Checked.{Checked}
 use Rattle.calls.specs.declared.refusal.Checked.the-variants.{Passed, Failed}
-use Rattle.simulator.specs.declared.outcome.StartOutcome.{StartOutcome}
 use Rattle.simulator.specs.declared.outcome.StartOutcome.the-variants.{Ready, Refused}
 use Rattle.simulator.specs.declared.outcome.Started.{Started}
 use Rattle.calls.specs.declared.tally.Tally.{Tally}

@@ -7,7 +7,6 @@ use Rattle.netlist.specs.Layout.{maximum, latchCount}
 use Rattle.netlist.specs.Meaning.{words, bitOf, valuesOf, nextOf, outputOf}
 use Rattle.calls.specs.declared.refusal.Checked.{Checked}
 use Rattle.calls.specs.declared.refusal.Checked.the-variants.{Passed, Failed}
-use Rattle.simulator.specs.declared.outcome.StepOutcome.{StepOutcome}
 use Rattle.simulator.specs.declared.outcome.StepOutcome.the-variants.{Output, Refused}
 use Rattle.simulator.specs.declared.outcome.Stepped.{Stepped}
 use Rattle.calls.specs.declared.tally.Tally.{Tally}

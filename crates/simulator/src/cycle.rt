@@ -10,13 +10,13 @@ ghost use Rattle.netlist.specs.Literals.{variableOf};
 ghost use Rattle.netlist.specs.Meaning.{words, litOf, bitOf, front, gatesOf, nextsOf};
 ghost use Rattle.netlist.specs.Valid.{isNetlist};
 ghost use Rattle.simulator.specs.Step.{outputWord, latchesAfter, valuesAfter};
-use crate::layout::GATES;
 use crate::layout::HEADER;
-use crate::layout::LATCHES;
-use crate::layout::header;
 use crate::layout::operands_at;
 use crate::layout::output_at;
-use crate::tally::ALL_LANES;
+use calls::ALL_LANES;
+use calls::GATES;
+use calls::LATCHES;
+use calls::header;
 use netlist::Literal;
 
 // The word of a literal, where values has the words of the variables.

@@ -8,7 +8,7 @@ ghost use lib.ListN.{length, drop};
 ghost use Rattle.netlist.specs.Lanes.{lane, wordOf};
 ghost use Rattle.simulator.specs.Start.{startWords};
 use crate::layout::HEADER;
-use crate::tally::ALL_LANES;
+use calls::ALL_LANES;
 
 // Word j has in lane n bit j of n.
 const PATTERNS: [u64; 6] = [

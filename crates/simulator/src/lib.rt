@@ -1,7 +1,7 @@
 // The simulator of netlists: start, step and run over lent latch words, value words and verdict
 // bytes, 64 lanes at a time, with the caller's tally by value. Knows nothing of graphs. Exports that
-// each step computes, in every lane, the one valuation that AIGER's equations allow, and that a run is
-// its steps one after another.
+// each step computes and answers, in every lane, what the one valuation that AIGER's equations allow
+// gives, and that a run is its steps one after another, one for each line of its trace.
 ghost use mathlib.Core.Path.{_≡_};
 ghost use Prim.Native.Nat.{ℕ};
 ghost use Rattle.simulator.specs.Start.{startEnd, startOf};
@@ -9,6 +9,8 @@ ghost use Rattle.simulator.specs.Step.{stepEnd, stepOf};
 ghost use Rattle.simulator.specs.Run.{runEnd, runOf};
 ghost use Rattle.simulator.specs.Claims.{StartMeans, StepMeans, RunIsSteps};
 ghost use Rattle.calls.specs.Tallies.{RejectedByLane};
+ghost use Rattle.netlist.specs.Layout.{inputCount};
+ghost use Rattle.trace.specs.Claims.{TraceMeans};
 
 mod cycle;
 mod latches;
@@ -19,12 +21,12 @@ mod tally;
 
 use crate::cycle::advance;
 use crate::latches::starts;
-use crate::layout::LATCHES;
-use crate::layout::header;
 use crate::running::run_cycles;
 use crate::tally::tallied;
 use calls::Checked;
+use calls::LATCHES;
 use calls::Tally;
+use calls::header;
 use calls::run_check;
 use calls::start_check;
 use calls::step_check;
@@ -98,6 +100,7 @@ pub fn run(
     tally: Tally,
 ) -> Ran
     ensures { λ r. ⌜ runEnd r (now (latches .exit)) (now (values .exit)) (now (verdicts .exit)) ≡ runOf (now (net .entry)) (now (trace .entry)) (now (latches .entry)) (now (values .entry)) (now (verdicts .entry)) tally ⌝ }
+    ensures trace { λ _. ⌜ TraceMeans (inputCount (now (net .entry))) (now (trace .entry)) ⌝ }
     ensures steps { λ _. ⌜ RunIsSteps (now (net .entry)) (now (trace .entry)) (now (latches .entry)) (now (values .entry)) (now (verdicts .entry)) tally ⌝ }
 {
     let checked = run_check(

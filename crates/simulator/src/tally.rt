@@ -5,9 +5,6 @@ ghost use Rattle.calls.specs.Tallies.{counted, hasRoom};
 use calls::Tally;
 use calls::is_rejected;
 
-// A word with a 1 in every lane.
-pub(crate) const ALL_LANES: u64 = 18446744073709551615;
-
 // The tally after a cycle with this output word.
 pub(crate) fn tallied(tally: Tally, word: u64) -> Tally
     requires { ⌜ hasRoom tally 1 ≡ true ⌝ }

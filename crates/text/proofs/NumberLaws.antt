@@ -11,7 +11,6 @@ use lib.Dec.{leb}
 use lib.ListN.{length, getD, drop, length-append, List·getD-append, List·getD-eq-default, drop-of-length-le}
 use lib.Seq.{drop-cons}
 use Rattle.text.specs.Numbers.{digitsOf, digits, isDigit, leadingDigits, valueFrom}
-use Rattle.text.proofs.LineLaws.{NoLf}
 
 -- ---- how digits are made
 
@@ -124,14 +123,6 @@ each-digits =
     (λ n h ih. rw (digits-more n h) (each-snoc (digits (n / 10)) (48 + n % 10) ih (digit n)))
 
 -- a digit is no byte that is none, as LF, blank and tab
-pub digit-not : {d b : ℕ} → isDigit d ≡ true → isDigit b ≡ false → d ≡ b → ⊥
-digit-not {d} {b} h g e = let z : true ≡ false = sym h ∙ ap isDigit e ∙ g in let y : _≡_ {A = ℕ} 0 1 = cc in omega arith
-
-pub each-no-lf : (ds : List ℕ) → EachDigit ds → NoLf ds
-unfolding EachDigit NoLf isDigit
-each-no-lf [] e = tt
-each-no-lf (d ∷ ds) e = (digit-not (e .0) refl, each-no-lf ds (e .1))
-
 -- only 0 starts with the digit `0`
 pub digits-lead : (n : ℕ) → 0 < n → getD (digits n) 0 0 ≡ 48 → ⊥
 digits-lead =
@@ -173,6 +164,3 @@ unfolding valueFrom
 value-digits =
     digits-ind (λ n. valueFrom 0 (digits n) ≡ n) (λ n h. rw (digits-small n h) (omega arith))
     (λ n h ih. rw (digits-more n h, value-snoc 0 (digits (n / 10)) (48 + n % 10), ih) (omega arith))
-
-pub digits-injective : (a b : ℕ) → digits a ≡ digits b → a ≡ b
-digits-injective a b e = sym (value-digits a) ∙ ap (valueFrom 0) e ∙ value-digits b

@@ -1,9 +1,9 @@
--- Lines of a text. A line ends with its LF, byte 10; lines count from 1. Assumes nothing.
-use mathlib.Core.Bool.{Bool, true, false, cond}
+-- Lines of a text. A line ends with its LF, byte 10. Assumes nothing.
+use mathlib.Core.Bool.{true, false}
 use mathlib.Core.List.{List, [], _∷_}
-use Prim.Native.Nat.{ℕ, zero, suc, _+_}
+use Prim.Native.Nat.{ℕ, suc, _+_}
 use lib.Dec.{eqb, ltb}
-use lib.ListN.{length, drop, take}
+use lib.ListN.{length, drop}
 use Rattle.text.specs.declared.Line.{Line}
 use Rattle.text.specs.declared.Line.the-variants.{Ended, Unended, End}
 
@@ -12,7 +12,7 @@ unfoldable pub toLf : List ℕ → ℕ
 toLf [] = 0
 toLf (b ∷ s) = elim (eqb b 10) [ true ↦ 0 | false ↦ suc (toLf s) ]
 
--- the place of the first LF at or after p, or the text's length
+-- the place of the first LF at or after p; the text's length where there is none, or p where it is past that
 unfoldable pub lineEnd : List ℕ → ℕ → ℕ
 lineEnd s p = p + toLf (drop p s)
 
@@ -20,12 +20,3 @@ lineEnd s p = p + toLf (drop p s)
 unfoldable pub lineAt : List ℕ → ℕ → Line
 lineAt s p =
     elim (ltb p (length s)) [ true ↦ elim (ltb (lineEnd s p) (length s)) [ true ↦ Ended (lineEnd s p) | false ↦ Unended ] | false ↦ End ]
-
--- how many LFs there are
-unfoldable pub lfs : List ℕ → ℕ
-lfs [] = 0
-lfs (b ∷ s) = cond (eqb b 10) 1 0 + lfs s
-
--- the number of the line in which place p stands: one more than the LFs before it
-unfoldable pub lineNumber : List ℕ → ℕ → ℕ
-lineNumber s p = 1 + lfs (take p s)

@@ -10,7 +10,7 @@ ghost use mathlib.Core.List.{[], _∷_};
 ghost use lib.Dec.{leb, eqb};
 ghost use lib.ListN.{getD};
 ghost use mathlib.Core.Bool.{cond, not, _&&_, _||_};
-ghost use Rattle.text.specs.Lines.{lineEnd, lineAt, lineNumber};
+ghost use Rattle.text.specs.Lines.{lineEnd, lineAt};
 ghost use Rattle.text.specs.Numbers.{digits, isDigit, readNumber, ReadsBack};
 ghost use Rattle.text.specs.Writer.{Wrote};
 
@@ -31,8 +31,8 @@ pub enum Line {
     End,
 }
 
-// The place of the first LF at or after `at`, or the text's end.
-pub fn line_end(s: &[u8], at: usize) -> usize
+// The place of the first LF at or after `at`; the text's end where there is none, or `at` where it is past that.
+fn line_end(s: &[u8], at: usize) -> usize
     ensures { λ r. ⌜ r ≡ lineEnd (now (s .entry)) at ⌝ }
 {
     let mut i = at;
@@ -58,24 +58,6 @@ pub fn line_at(s: &[u8], at: usize) -> Line
     } else {
         Line::Unended
     }
-}
-
-// The number of the line in which a place stands; the first line is 1.
-pub fn line_number(s: &[u8], at: usize) -> usize
-    ensures { λ r. ⌜ r ≡ lineNumber (now (s .entry)) at ⌝ }
-{
-    let mut line: usize = 1;
-    let mut i = 0;
-    while i < s.len() {
-        if at <= i {
-            return line;
-        }
-        if s[i] == b'\n' {
-            line += 1;
-        }
-        i += 1;
-    }
-    line
 }
 
 // What reading a number finds.

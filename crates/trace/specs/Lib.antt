@@ -1,2 +1,3 @@
--- The root of the definitions that the contracts of trace cite.
+-- The root of the definitions that the contracts of trace cite, in reading order.
 pub mod Traces
+pub mod Claims

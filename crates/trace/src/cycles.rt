@@ -4,6 +4,7 @@ ghost use mathlib.Core.Path.{_≡_};
 ghost use Prim.Native.Nat.{_+_, min};
 ghost use lib.ListN.{length, take, drop};
 ghost use Rattle.trace.specs.Traces.{isBit, isCycle, fitsLine, faultOf};
+ghost use Rattle.trace.specs.Claims.{TraceMeans};
 
 fn is_bit(b: u8) -> bool
     ensures { λ r. ⌜ r ≡ isBit b ⌝ }
@@ -44,6 +45,7 @@ fn fits_line(n: usize, col: usize, b: u8) -> bool
 // The first wrong line of a trace for n inputs, from 1, or 0 where there is none.
 pub fn fault(trace: &[u8], n: usize) -> usize
     ensures { λ r. ⌜ r ≡ faultOf n (now (trace .entry)) ⌝ }
+    ensures trace { λ _. ⌜ TraceMeans n (now (trace .entry)) ⌝ }
 {
     let mut line: usize = 1;
     let mut col: usize = 0;

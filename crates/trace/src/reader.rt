@@ -8,9 +8,9 @@ use crate::cycles::cycle_at;
 use crate::cycles::place_after;
 
 // The caller's trace, and the place of its next cycle.
-pub struct TraceReader<'a> {
-    pub trace: &'a [u8],
-    pub at: usize,
+pub(crate) struct TraceReader<'a> {
+    pub(crate) trace: &'a [u8],
+    pub(crate) at: usize,
 }
 
 // The reader whose next cycle stands at a place.

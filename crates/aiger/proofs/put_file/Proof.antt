@@ -17,8 +17,8 @@ put-header-requires c κs = search needs
 put-inputs-requires : tie.Need-put-inputs-requires
 put-inputs-requires c κs = search needs
 
-add-put-latches : tie.Need-add-put-latches
-add-put-latches c = search needs
+add-t10 : tie.Need-add-t10
+add-t10 c = search needs
 
 put-latches-requires : tie.Need-put-latches-requires
 put-latches-requires c κs = search needs
@@ -46,7 +46,7 @@ put-file-spec =
     shared-slice-read-l
     put-header-requires
     put-inputs-requires
-    add-put-latches
+    add-t10
     put-latches-requires
     put-logic-requires
     same-length

@@ -42,7 +42,7 @@ loop-again : tie.Need-loop-again Inv-loop μ-loop
 unfolding gateLine
 loop-again c =
     let e2 = c .before .before in
-    let l = e2 .before .before .before in
+    let l = e2 .before .before .before .before in
     let s = l .before .before .before in
     (search needs, more _ (l .loop .k) (l .loop .inv .1) (rw (s .pre .0 .0, s .pre .0 .1) at (e2 .put-gate .ensures)))
 

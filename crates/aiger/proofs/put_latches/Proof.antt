@@ -33,7 +33,7 @@ loop-less c = search needs
 loop-again : tie.Need-loop-again Inv-loop μ-loop
 loop-again c =
     let e2 = c .before .before in
-    let l = e2 .before .before .before in
+    let l = e2 .before .before .before .before in
     (search needs, more _ (l .loop .k) (l .loop .inv .1) (e2 .put-latch .ensures))
 
 same-length : tie.Need-same-length Inv-loop μ-loop

@@ -34,11 +34,11 @@ add-operands c = search needs
 put-outputs-requires : tie.Need-put-outputs-requires
 put-outputs-requires c κs = search needs
 
-add-put-gates : tie.Need-add-put-gates
-add-put-gates c = search needs
+add-t12 : tie.Need-add-t12
+add-t12 c = search needs
 
-add-put-gates-2 : tie.Need-add-put-gates-2
-add-put-gates-2 c = search needs
+add-t22 : tie.Need-add-t22
+add-t22 c = search needs
 
 put-gates-requires : tie.Need-put-gates-requires
 put-gates-requires c κs = search needs
@@ -66,8 +66,8 @@ put-logic-spec =
     cast-operands
     add-operands
     put-outputs-requires
-    add-put-gates
-    add-put-gates-2
+    add-t12
+    add-t22
     put-gates-requires
     same-length
     returns)

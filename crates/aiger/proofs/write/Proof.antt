@@ -8,6 +8,7 @@ use borrow.Author.Needs.{needs}
 use Rattle.text.proofs.WriterLaws.{measured, too-long}
 use Rattle.netlist.proofs.ValidLaws.{valid}
 use Rattle.aiger.specs.Format.{fileOf}
+use Rattle.aiger.proofs.ClaimLaws.{write-means}
 use Rattle.aiger.proofs.WriteLaws.{no-netlist, too-short, written}
 use Rattle.aiger.proofs.write.Statement.{statement}
 use Rattle.aiger.proofs.write.Tie as tie
@@ -17,7 +18,7 @@ is-netlist-requires c κs = search needs
 
 returns : tie.Need-returns
 returns c =
-    sym (no-netlist _ _ (sym (c .before .is-netlist .ensures .0) ∙ not-true _ (c .if1 .taken)))
+    (sym (no-netlist _ _ (sym (c .before .is-netlist .ensures .0) ∙ not-true _ (c .if1 .taken))), write-means)
 
 slice-relend-prefix-put-file : tie.Need-slice-relend-prefix-put-file
 slice-relend-prefix-put-file c = search needs
@@ -42,7 +43,7 @@ returns-2 c =
     let text = now (s .args .text) in
     let is = sym (t .before .is-netlist .ensures .0) ∙ not-false _ (t .if1 .left) in
     let m = too-long text (fileOf net) (omega (arith, s .good)) (c .before .before .before .put-file .ensures) (c .if2 .taken) in
-    rw (m .1) (sym (too-short net text is (m .0)))
+    (rw (m .1) (sym (too-short net text is (m .0))), write-means)
 
 put-file-requires-2 : tie.Need-put-file-requires-2
 put-file-requires-2 c κs =
@@ -62,7 +63,7 @@ returns-3 c =
     let text = now (s .args .text) in
     let is = sym (t .before .is-netlist .ensures .0) ∙ not-false _ (t .if1 .left) in
     let m = measured text (fileOf net) (omega (arith, s .good)) (u .before .before .before .put-file .ensures) (u .if2 .left) (c .before .before .put-file2 .ensures) in
-    rw (m .1, m .2) (sym (written net text is (m .0)))
+    (rw (m .1, m .2) (sym (written net text is (m .0))), write-means)
 
 pub write-spec : {M : Type 1} → statement M
 write-spec =

@@ -2,7 +2,7 @@
 use mathlib.Core.Path.{_≡_}
 use mathlib.Core.Bool.{true, false, cond, _&&_, _||_}
 use mathlib.Core.List.{List, [], _∷_}
-use Prim.Native.Nat.{ℕ, zero, suc, _+_, _≤_}
+use Prim.Native.Nat.{ℕ, _+_, _≤_}
 use lib.Dec.{eqb, leb, ltb}
 use lib.ListN.{length, getD}
 use lib.Seq.{sets}
@@ -11,7 +11,8 @@ use Rattle.aiger_read.specs.declared.Fault.the-variants.{OutOfLimits}
 use Rattle.aiger_read.specs.declared.Line.{Line}
 use Rattle.aiger_read.specs.declared.Kind.{Kind}
 use Rattle.aiger_read.specs.declared.Kind.the-variants.{Input, Latch, Output, Gate}
-use Rattle.aiger_read.specs.declared.Given.{Given}
+use Rattle.aiger_read.specs.declared.Literals.{Literals}
+use Rattle.aiger_read.specs.declared.Literals.the-variants.{None, One, Two}
 use Rattle.aiger_read.specs.declared.LineRead.{LineRead}
 use Rattle.aiger_read.specs.declared.LineRead.the-variants.{Good, Bad}
 use Rattle.aiger_read.specs.declared.Head.{Head}
@@ -39,16 +40,13 @@ LineIs (fields vs q) l = Holds l vs q
 
 -- ---- what a line gives
 
-unfoldable pub numbersOf : ℕ → ℕ → ℕ → List ℕ
-numbersOf zero a b = []
-numbersOf (suc zero) a b = a ∷ []
-numbersOf (suc (suc n)) a b = a ∷ b ∷ []
-
-abbrev pub numbersIn : Given → List ℕ
-numbersIn g = numbersOf (g .count) (g .first) (g .second)
+unfoldable pub numbersIn : Literals → List ℕ
+numbersIn None = []
+numbersIn (One a) = a .0 ∷ []
+numbersIn (Two a b) = a .0 ∷ b .0 ∷ []
 
 unfoldable pub rowIn : LineRead → Row
-rowIn (Good g) = row (numbersIn g) (g .free) (g .next)
+rowIn (Good g) = row (numbersIn (g .literals)) (g .free) (g .next)
 rowIn (Bad e) = fault e
 
 -- a latch whose literal and next fit
@@ -56,12 +54,19 @@ unfoldable pub resetRow : ℕ → ℕ → ℕ → ℕ → ℕ → Row
 resetRow lit next reset free q =
     cond (leb reset 1 || (eqb reset lit && ltb free 6)) (row (next ∷ reset ∷ []) (free + cond (leb reset 1) 0 1) q) (fault OutOfLimits)
 
--- the line of a kind
-unfoldable pub kindAt : List ℕ → Kind → ℕ → ℕ → ℕ → ℕ → Row
-kindAt s Input last lit = inputAt s lit
-kindAt s Latch last lit = latchAt s last lit
-kindAt s Output last lit = outputAt s last
-kindAt s Gate last lit = gateAt s lit
+-- the first variable of a kind, or 0
+abbrev pub firstOf : Kind → ℕ
+firstOf (Input first) = first .0
+firstOf (Latch first last) = first .0
+firstOf (Output last) = 0
+firstOf (Gate first) = first .0
+
+-- line k of a kind
+unfoldable pub kindAt : List ℕ → Kind → ℕ → ℕ → ℕ → Row
+kindAt s (Input first) k = inputAt s (literalOf (first .0 + k) false)
+kindAt s (Latch first last) k = latchAt s (last .0) (literalOf (first .0 + k) false)
+kindAt s (Output last) k = outputAt s (last .0)
+kindAt s (Gate first) k = gateAt s (literalOf (first .0 + k) false)
 
 -- ---- the header
 
@@ -94,8 +99,8 @@ Within n (Past c) = c .place ≤ n
 Within n (Failed e line) = Unit {0}
 
 -- the lines of a block
-unfoldable pub blockOf : List ℕ → ℕ → Block → Cursor → Rows
-blockOf s last b c = rowsOf (λ k. kindAt s (b .kind) last (literalOf (b .first + k) false)) (b .count) 0 (b .line) (c .free) (c .at)
+unfoldable pub blockOf : List ℕ → Block → Cursor → Rows
+blockOf s b c = rowsOf (kindAt s (b .kind)) (b .count) 0 (b .line) (c .free) (c .at)
 
 -- from the gates on
 unfoldable pub gatesOf : List ℕ → Head → ℕ → ℕ → Rows

@@ -27,7 +27,7 @@ unfolding writeCall writeAs
 returns c =
     let told = c .before in
     let called = told .before .before .before .before in
-    rw (← called .write .ensures, told .written .given .1)
+    rw (← called .write .ensures .0, told .written .given .1)
 
 same-length-2 : tie.Need-same-length-2
 same-length-2 c = c .before .before .before .before .before .before .before .write .kept .1 .0
@@ -37,7 +37,7 @@ unfolding writeCall writeAs
 returns-2 c =
     let told = c .before .before .before in
     let called = told .before .before .before .before in
-    rw (← called .write .ensures, told .written2 .given .1, c .code .ensures, c .before .refusal .ensures)
+    rw (← called .write .ensures .0, told .written2 .given .1, c .code .ensures, c .before .refusal .ensures)
 
 pub ludo-write-spec : {M : Type 1} → statement M
 ludo-write-spec =

@@ -22,7 +22,7 @@ unfolding asPage
 returns c =
     let e = c .before .before .before .before .before in
     let s = e .before .before .before .before in
-    rw (c .before .written .given .1) at (file-page (now (s .args .net)) (now (s .args .out)) (s .pre) (e .write .ensures))
+    rw (c .before .written .given .1) at (file-page (now (s .args .net)) (now (s .args .out)) (s .pre) (e .write .ensures .0))
 
 same-length-2 : tie.Need-same-length-2
 same-length-2 c = search needs
@@ -32,7 +32,7 @@ unfolding asPage
 returns-2 c =
     let e = c .before .before .before .before in
     let s = e .before .before .before .before in
-    rw (c .enum-told .given .1) at (file-page (now (s .args .net)) (now (s .args .out)) (s .pre) (e .write .ensures))
+    rw (c .enum-told .given .1) at (file-page (now (s .args .net)) (now (s .args .out)) (s .pre) (e .write .ensures .0))
 
 pub file-page-spec : {M : Type 1} → statement M
 file-page-spec =

@@ -17,7 +17,7 @@ enum-told : tie.Need-enum-told
 enum-told c = search needs
 
 header-requires : tie.Need-header-requires
-header-requires c κs = (start-passed _ _ _ (c .before .before .start-check .ensures) (c .enum-told .given .1) .netlist, search needs)
+header-requires c κs = search needs
 
 starts-requires : tie.Need-starts-requires
 starts-requires c κs =

@@ -1,31 +1,22 @@
 -- `block_at` meets its contract: what is taken of the lines that are left is taken of the whole block. Assumes nothing.
-use mathlib.Core.Bool.{false}
 use mathlib.Core.Path.{refl}
-use Prim.Native.Nat.{_+_, _-_}
+use Prim.Native.Nat.{_-_}
 use native.Mathlib.Omega.{arith}
-use borrow.Author.Needs.{needs}
-use Rattle.netlist.specs.Literals.{literalOf}
-use Rattle.netlist.proofs.LiteralLaws.{made}
 use Rattle.aiger_read.specs.Private.Steps.{kindAt, blockOf, Within}
 use Rattle.aiger_read.proofs.PassLaws.{Going, going-start, going-next, going-fault, going-done, row-good, row-bad}
+use borrow.Author.Needs.{needs}
 use Rattle.aiger_read.proofs.files.block_at.Statement.{statement}
 use Rattle.aiger_read.proofs.files.block_at.Tie as tie
 
 abbrev Inv-loop : tie.InvT-loop
-Inv-loop s net₀ last block kind count free₀ at₀ place₀ k₀ net free at place k =
-    Going (λ j. kindAt s kind last (literalOf (block .first + j) false)) count (block .line) free₀ at₀ net₀ place₀ net k free at place
+Inv-loop s net₀ block kind count free₀ at₀ place₀ k₀ net free at place k =
+    Going (kindAt s kind) count (block .line) free₀ at₀ net₀ place₀ net k free at place
 
 abbrev μ-loop : tie.MeasureT-loop
-μ-loop s net₀ last block kind count free₀ at₀ place₀ k₀ net free at place k = count - k
+μ-loop s net₀ block kind count free₀ at₀ place₀ k₀ net free at place k = count - k
 
 loop-holds : tie.Need-loop-holds Inv-loop μ-loop
 loop-holds c = going-start _ _ _ _ _ _ _
-
-add-t16 : tie.Need-add-t16 Inv-loop μ-loop
-add-t16 c = search needs
-
-literal-requires : tie.Need-literal-requires Inv-loop μ-loop
-literal-requires c κs = search needs
 
 line-of-requires : tie.Need-line-of-requires Inv-loop μ-loop
 line-of-requires c κs = search needs
@@ -39,23 +30,22 @@ store-given-requires c κs = search needs
 enum-known-fault : tie.Need-enum-known-fault Inv-loop μ-loop
 enum-known-fault c = search needs
 
-cast-t21 : tie.Need-cast-t21 Inv-loop μ-loop
-cast-t21 c = search needs
+cast-t18 : tie.Need-cast-t18 Inv-loop μ-loop
+cast-t18 c = search needs
 
-add-t22 : tie.Need-add-t22 Inv-loop μ-loop
-add-t22 c = search needs
+add-t19 : tie.Need-add-t19 Inv-loop μ-loop
+add-t19 c = search needs
 
 same-length : tie.Need-same-length Inv-loop μ-loop
-same-length c = c .before .before .before .before .before .before .before .before .loop .inv .same
+same-length c = c .before .before .before .before .before .before .loop .inv .same
 
 returns : tie.Need-returns Inv-loop μ-loop
 unfolding blockOf Within
 returns c =
     let f = c .before .before in
     let lo = f .before .before in
-    let lit = lo .before in
-    let lt = lit .before .before in
-    (going-fault _ _ _ _ _ _ _ (lt .before .loop .inv) _ (lt .loop-test .taken) (row-bad _ _ _ _ _ _ _ _ _ (lo .line-of .ensures) (f .fault .given .1) (made _ false (omega (arith, lt .before .before .before .before .pre .0, lt .loop-test .taken)) (lit .literal .ensures))) refl, tt)
+    let lt = lo .before in
+    (going-fault _ _ _ _ _ _ _ (lt .before .loop .inv) _ (lt .loop-test .taken) (row-bad _ _ _ (lo .line-of .ensures) (f .fault .given .1)) refl, tt)
 
 add-k : tie.Need-add-k Inv-loop μ-loop
 add-k c = search needs
@@ -68,9 +58,8 @@ loop-again c =
     let sg = c .before .before in
     let gv = sg .before .before .before in
     let lo = gv .before .before in
-    let lit = lo .before in
-    let lt = lit .before .before in
-    going-next _ _ _ _ _ _ _ (lt .before .loop .inv) _ _ _ (lt .loop-test .taken) (row-good _ _ _ _ _ _ _ _ _ (lo .line-of .ensures) (gv .given .given .1) (made _ false (omega (arith, lt .before .before .before .before .pre .0, lt .loop-test .taken)) (lit .literal .ensures))) (sg .store-given .ensures .0) (sg .store-given .ensures .1) (sg .store-given .ensures .2)
+    let lt = lo .before in
+    going-next _ _ _ _ _ _ _ (lt .before .loop .inv) _ _ _ (lt .loop-test .taken) (row-good _ _ _ (lo .line-of .ensures) (gv .given .given .1)) (sg .store-given .ensures .0) (sg .store-given .ensures .1) (sg .store-given .ensures .2)
 
 same-length-2 : tie.Need-same-length-2 Inv-loop μ-loop
 same-length-2 c = c .before .loop .inv .same
@@ -86,14 +75,12 @@ block-at-spec =
     Inv-loop
     μ-loop
     loop-holds
-    add-t16
-    literal-requires
     line-of-requires
     enum-known-given
     store-given-requires
     enum-known-fault
-    cast-t21
-    add-t22
+    cast-t18
+    add-t19
     same-length
     returns
     add-k

@@ -24,11 +24,11 @@ add-line-2 c = search needs
 add-line-3 : tie.Need-add-line-3
 add-line-3 c = search needs
 
+add-t15 : tie.Need-add-t15
+add-t15 c = search needs
+
 add-t16 : tie.Need-add-t16
 add-t16 c = search needs
-
-add-t17 : tie.Need-add-t17
-add-t17 c = search needs
 
 block-at-requires : tie.Need-block-at-requires
 block-at-requires c κs = search needs
@@ -36,11 +36,11 @@ block-at-requires c κs = search needs
 enum-known-end : tie.Need-enum-known-end
 enum-known-end c = search needs
 
-cast-t26 : tie.Need-cast-t26
-cast-t26 c = search needs
+cast-t27 : tie.Need-cast-t27
+cast-t27 c = search needs
 
-add-t27 : tie.Need-add-t27
-add-t27 c = search needs
+add-t28 : tie.Need-add-t28
+add-t28 c = search needs
 
 enum-known-fault : tie.Need-enum-known-fault
 enum-known-fault c = search needs
@@ -86,12 +86,12 @@ gates-at-spec =
     cast-line-3
     add-line-2
     add-line-3
+    add-t15
     add-t16
-    add-t17
     block-at-requires
     enum-known-end
-    cast-t26
-    add-t27
+    cast-t27
+    add-t28
     enum-known-fault
     same-length
     returns

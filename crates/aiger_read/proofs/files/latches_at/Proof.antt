@@ -1,5 +1,6 @@
 -- `latches_at` meets its contract. Assumes nothing.
 use mathlib.Core.Bool.{true}
+use mathlib.Core.Path.{refl}
 use denote.Ref.{now}
 use Rattle.netlist.proofs.LiteralLaws.{made}
 use native.Mathlib.Omega.{arith}
@@ -11,8 +12,8 @@ use Rattle.aiger_read.proofs.files.latches_at.Tie as tie
 literal-requires : tie.Need-literal-requires
 literal-requires c κs = search needs
 
-add-t12 : tie.Need-add-t12
-add-t12 c = search needs
+add-t11 : tie.Need-add-t11
+add-t11 c = search needs
 
 cast-t13 : tie.Need-cast-t13
 cast-t13 c = search needs
@@ -46,7 +47,7 @@ returns c =
     let b = n .before .before .before .before in
     let l = b .before .before .before .before in
     let start = l .before .before .before in
-    latches-then (now (start .args .s)) (start .args .head) (start .args .from) _ (made _ true (omega (arith, start .pre .0 .2)) (l .literal .ensures)) _ _ _ _ _ _ (b .block-at .ensures .0) (n .next .given .1) (g .outputs-at .ensures)
+    latches-then (now (start .args .s)) (start .args .head) (start .args .from) _ (made _ true (omega (arith, start .pre .0 .2)) (l .literal .ensures)) _ _ _ _ refl _ _ _ (b .block-at .ensures .0) (n .next .given .1) (g .outputs-at .ensures)
 
 same-length-2 : tie.Need-same-length-2
 same-length-2 c = search needs
@@ -57,14 +58,14 @@ returns-2 c =
     let b = f .before .before .before .before in
     let l = b .before .before .before .before in
     let start = l .before .before .before in
-    latches-failed (now (start .args .s)) (start .args .head) (start .args .from) _ (made _ true (omega (arith, start .pre .0 .2)) (l .literal .ensures)) _ _ _ _ _ (b .block-at .ensures .0) (f .fault .given .1)
+    latches-failed (now (start .args .s)) (start .args .head) (start .args .from) _ (made _ true (omega (arith, start .pre .0 .2)) (l .literal .ensures)) _ _ _ _ refl _ _ (b .block-at .ensures .0) (f .fault .given .1)
 
 pub latches-at-spec : {M : Type 1} → statement M
 latches-at-spec =
     tie.close
     (tie.spec
     literal-requires
-    add-t12
+    add-t11
     cast-t13
     add-t14
     block-at-requires

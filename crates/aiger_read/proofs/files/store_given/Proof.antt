@@ -4,10 +4,11 @@ use borrow.Author.Needs.{needs}
 use Rattle.aiger_read.proofs.files.store_given.Statement.{statement}
 use Rattle.aiger_read.proofs.files.store_given.Tie as tie
 
-returns : tie.Need-returns
-returns c =
-    let start = c .before .before .before in
-    stores-none _ _ _ _ _ (c .if1 .taken)
+enum-told : tie.Need-enum-told
+enum-told c = search needs
+
+enum-known-given : tie.Need-enum-known-given
+enum-known-given c = search needs
 
 store-requires : tie.Need-store-requires
 store-requires c κs = search needs
@@ -15,11 +16,8 @@ store-requires c κs = search needs
 add-result : tie.Need-add-result
 add-result c = search needs
 
-same-length : tie.Need-same-length
-same-length c = search needs
-
-returns-2 : tie.Need-returns-2
-returns-2 c = stores-one _ _ _ _ _ (c .before .before .before .before .if2 .taken) (c .before .before .store .ensures)
+enum-known-given-2 : tie.Need-enum-known-given-2
+enum-known-given-2 c = search needs
 
 store-pair-requires : tie.Need-store-pair-requires
 store-pair-requires c κs = search needs
@@ -27,22 +25,38 @@ store-pair-requires c κs = search needs
 add-result-2 : tie.Need-add-result-2
 add-result-2 c = search needs
 
+returns : tie.Need-returns
+returns c = stores-none _ _ _ (c .enum-told .given .1)
+
+same-length : tie.Need-same-length
+same-length c = search needs
+
+returns-2 : tie.Need-returns-2
+returns-2 c =
+    let st = c .before .before in
+    stores-one _ _ _ (st .before .before .before .given .given .1) (st .store .ensures)
+
 same-length-2 : tie.Need-same-length-2
 same-length-2 c = search needs
 
 returns-3 : tie.Need-returns-3
-returns-3 c = stores-two _ _ _ _ _ (c .before .before .before .before .before .before .if1 .left) (c .before .before .before .before .if2 .left) (c .before .before .store-pair .ensures)
+returns-3 c =
+    let st = c .before .before in
+    stores-two _ _ _ (st .before .before .before .given2 .given .1) (st .store-pair .ensures)
 
 pub store-given-spec : {M : Type 1} → statement M
 store-given-spec =
     tie.close
     (tie.spec
-    returns
+    enum-told
+    enum-known-given
     store-requires
     add-result
-    same-length
-    returns-2
+    enum-known-given-2
     store-pair-requires
     add-result-2
+    returns
+    same-length
+    returns-2
     same-length-2
     returns-3)

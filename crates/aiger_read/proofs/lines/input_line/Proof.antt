@@ -1,5 +1,5 @@
 -- `input_line` meets its contract. Assumes nothing.
-use Rattle.aiger_read.specs.Private.Steps.{numbersOf, rowIn}
+use Rattle.aiger_read.specs.Private.Steps.{numbersIn, rowIn}
 use Rattle.aiger_read.proofs.RowLaws.{input-wrong, input-bad, input-good}
 use borrow.Author.Needs.{needs}
 use Rattle.aiger_read.proofs.lines.input_line.Statement.{statement}
@@ -15,18 +15,21 @@ returns c = input-wrong _ _ _ _ (c .before .before .fields-at .ensures) _ (c .if
 array-read-if2 : tie.Need-array-read-if2
 array-read-if2 c = search needs
 
+cast-if2 : tie.Need-cast-if2
+cast-if2 c = search needs
+
 returns-2 : tie.Need-returns-2
 unfolding rowIn
 returns-2 c =
-    let i = c .before .before in
+    let i = c .before .before .before in
     input-bad _ _ _ _ (i .before .before .fields-at .ensures) _ (i .if1 .left) (c .if2 .taken)
 
 returns-3 : tie.Need-returns-3
-unfolding rowIn numbersOf
+unfolding rowIn numbersIn
 returns-3 c =
-    let i = c .before .before in
+    let i = c .before .before .before in
     input-good _ _ _ _ (i .before .before .fields-at .ensures) _ (i .if1 .left) (c .if2 .left)
 
 pub input-line-spec : {M : Type 1} → statement M
 input-line-spec =
-    tie.close (tie.spec fields-at-requires returns array-read-if2 returns-2 returns-3)
+    tie.close (tie.spec fields-at-requires returns array-read-if2 cast-if2 returns-2 returns-3)

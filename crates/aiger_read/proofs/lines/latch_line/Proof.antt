@@ -15,29 +15,36 @@ returns c = latch-wrong _ _ _ _ (c .before .before .latch-fields .ensures) _ _ (
 array-read-if2 : tie.Need-array-read-if2
 array-read-if2 c = search needs
 
+cast-if2 : tie.Need-cast-if2
+cast-if2 c = search needs
+
 returns-2 : tie.Need-returns-2
 unfolding rowIn
 returns-2 c =
-    let i = c .before .before in
+    let i = c .before .before .before in
     latch-other _ _ _ _ (i .before .before .latch-fields .ensures) _ _ (i .if1 .left) (c .if2 .taken)
 
 array-read-if3 : tie.Need-array-read-if3
 array-read-if3 c = search needs
 
+cast-if3 : tie.Need-cast-if3
+cast-if3 c = search needs
+
 returns-3 : tie.Need-returns-3
 unfolding rowIn
 returns-3 c =
-    let i = c .before .before .before in
-    latch-past _ _ _ _ (i .before .before .latch-fields .ensures) _ _ (i .if1 .left) (c .before .if2 .left) (c .if3 .taken)
+    let e = c .before .before in
+    let i = e .before .before .before in
+    latch-past _ _ _ _ (i .before .before .latch-fields .ensures) _ _ (i .if1 .left) (e .if2 .left) (c .if3 .taken)
+
+array-read-t12 : tie.Need-array-read-t12
+array-read-t12 c = search needs
+
+cast-t20 : tie.Need-cast-t20
+cast-t20 c = search needs
 
 array-read-latch-reset : tie.Need-array-read-latch-reset
 array-read-latch-reset c = search needs
-
-cast-latch-reset : tie.Need-cast-latch-reset
-cast-latch-reset c = search needs
-
-array-read-latch-reset-2 : tie.Need-array-read-latch-reset-2
-array-read-latch-reset-2 c = search needs
 
 latch-reset-requires : tie.Need-latch-reset-requires
 latch-reset-requires c κs = search needs
@@ -45,8 +52,9 @@ latch-reset-requires c κs = search needs
 returns-4 : tie.Need-returns-4
 returns-4 c =
     let k = c .before in
-    let i = k .before .before .before in
-    latch-next _ _ _ _ (i .before .before .latch-fields .ensures) _ _ (i .if1 .left) (k .before .if2 .left) (k .if3 .left) _ (c .latch-reset .ensures)
+    let e = k .before .before in
+    let i = e .before .before .before in
+    latch-next _ _ _ _ (i .before .before .latch-fields .ensures) _ _ (i .if1 .left) (e .if2 .left) (k .if3 .left) _ (c .latch-reset .ensures)
 
 pub latch-line-spec : {M : Type 1} → statement M
 latch-line-spec =
@@ -55,11 +63,13 @@ latch-line-spec =
     latch-fields-requires
     returns
     array-read-if2
+    cast-if2
     returns-2
     array-read-if3
+    cast-if3
     returns-3
+    array-read-t12
+    cast-t20
     array-read-latch-reset
-    cast-latch-reset
-    array-read-latch-reset-2
     latch-reset-requires
     returns-4)

@@ -1,5 +1,5 @@
 -- `output_line` meets its contract. Assumes nothing.
-use Rattle.aiger_read.specs.Private.Steps.{numbersOf, rowIn}
+use Rattle.aiger_read.specs.Private.Steps.{numbersIn, rowIn}
 use Rattle.aiger_read.proofs.RowLaws.{output-wrong, output-bad, output-good}
 use borrow.Author.Needs.{needs}
 use Rattle.aiger_read.proofs.lines.output_line.Statement.{statement}
@@ -15,10 +15,13 @@ returns c = output-wrong _ _ _ _ (c .before .before .fields-at .ensures) _ (c .i
 array-read-if2 : tie.Need-array-read-if2
 array-read-if2 c = search needs
 
+cast-if2 : tie.Need-cast-if2
+cast-if2 c = search needs
+
 returns-2 : tie.Need-returns-2
 unfolding rowIn
 returns-2 c =
-    let i = c .before .before in
+    let i = c .before .before .before in
     output-bad _ _ _ _ (i .before .before .fields-at .ensures) _ (i .if1 .left) (c .if2 .taken)
 
 array-read-t11 : tie.Need-array-read-t11
@@ -28,9 +31,9 @@ cast-t16 : tie.Need-cast-t16
 cast-t16 c = search needs
 
 returns-3 : tie.Need-returns-3
-unfolding rowIn numbersOf
+unfolding rowIn numbersIn
 returns-3 c =
-    let i = c .before .before in
+    let i = c .before .before .before in
     output-good _ _ _ _ (i .before .before .fields-at .ensures) _ (i .if1 .left) (c .if2 .left)
 
 pub output-line-spec : {M : Type 1} → statement M
@@ -40,6 +43,7 @@ output-line-spec =
     fields-at-requires
     returns
     array-read-if2
+    cast-if2
     returns-2
     array-read-t11
     cast-t16

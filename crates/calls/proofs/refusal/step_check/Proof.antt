@@ -14,7 +14,7 @@ unfolding stepCheck
 returns c = rw (sym (c .before .is-netlist .ensures .0) ∙ not-true _ (c .if1 .taken))
 
 header-requires : tie.Need-header-requires
-header-requires c κs = (sym (c .before .is-netlist .ensures .0) ∙ not-false _ (c .if1 .left), search needs)
+header-requires c κs = search needs
 
 is-cycle-requires : tie.Need-is-cycle-requires
 is-cycle-requires c κs = search needs

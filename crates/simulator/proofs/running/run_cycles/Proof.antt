@@ -5,7 +5,6 @@ use native.Mathlib.Omega.{arith}
 use lib.ListN.{length}
 use borrow.Author.Needs.{needs}
 use Rattle.simulator.proofs.RunLaws.{asked, length-part, Going, Asked, ready, bytes-enough, going-start, going-line, going-place, going-room, going-next, going-done}
-use Rattle.calls.proofs.RefusalLaws.{run-passed}
 use Rattle.simulator.proofs.running.run_cycles.Statement.{statement}
 use Rattle.simulator.proofs.running.run_cycles.Tie as tie
 
@@ -18,7 +17,7 @@ abbrev μ-loop : tie.MeasureT-loop
     lines - k
 
 header-requires : tie.Need-header-requires Inv-loop μ-loop
-header-requires c κs = (run-passed _ _ _ _ _ _ (c .before .before .before .before .before .pre) .netlist, search needs)
+header-requires c κs = search needs
 
 add-lines : tie.Need-add-lines Inv-loop μ-loop
 add-lines c = search needs

@@ -8,6 +8,7 @@ use borrow.Author.Tests.{not-true, not-false}
 use borrow.Author.Needs.{needs}
 use Rattle.trace.specs.Traces.{faultFrom, faultOf}
 use Rattle.trace.proofs.TraceLaws.{fault-none, fault-last, fault-here, fault-line, fault-col}
+use Rattle.trace.proofs.LineLaws.{trace-means}
 use Rattle.trace.proofs.cycles.fault.Statement.{statement}
 use Rattle.trace.proofs.cycles.fault.Tie as tie
 
@@ -30,7 +31,7 @@ fits-line-requires c κs = search needs
 returns : tie.Need-returns Inv-loop μ-loop
 returns c =
     let l = c .before .before .before .before in
-    sym (fault-here _ _ _ _ _ (c .before .before .before .loop-test .taken) (sym (c .before .fits-line .ensures) ∙ not-true _ (c .if1 .taken))) ∙ l .loop .inv .3
+    (sym (fault-here _ _ _ _ _ (c .before .before .before .loop-test .taken) (sym (c .before .fits-line .ensures) ∙ not-true _ (c .if1 .taken))) ∙ l .loop .inv .3, trace-means _ _)
 
 add-line : tie.Need-add-line Inv-loop μ-loop
 add-line c = search needs
@@ -56,10 +57,10 @@ loop-again c =
     (c .if2 .came)
 
 returns-2 : tie.Need-returns-2 Inv-loop μ-loop
-returns-2 c = sym (fault-none _ _ _ _ _ (c .before .loop-test .left) (c .if3 .taken)) ∙ c .before .before .loop .inv .3
+returns-2 c = (sym (fault-none _ _ _ _ _ (c .before .loop-test .left) (c .if3 .taken)) ∙ c .before .before .loop .inv .3, trace-means _ _)
 
 returns-3 : tie.Need-returns-3 Inv-loop μ-loop
-returns-3 c = sym (fault-last _ _ _ _ _ (c .before .loop-test .left) (c .if3 .left)) ∙ c .before .before .loop .inv .3
+returns-3 c = (sym (fault-last _ _ _ _ _ (c .before .loop-test .left) (c .if3 .left)) ∙ c .before .before .loop .inv .3, trace-means _ _)
 
 pub fault-spec : {M : Type 1} → statement M
 fault-spec =

@@ -2,7 +2,6 @@
 use mathlib.Core.Path.{_≡_, refl, sym, ap, _∙_}
 use mathlib.Core.Bool.{Bool, true, false, cond, not}
 use mathlib.Core.List.{List, _++_}
-use mathlib.Core.Logic.{_⊎_, inl, inr}
 use Prim.Native.Nat.{ℕ, _<_, _≤_}
 use native.Mathlib.Omega.{arith}
 use borrow.Author.Tests.{le-leb, lt-leb}
@@ -10,7 +9,7 @@ use lib.Dec.{leb}
 use lib.ListN.{length, take, drop}
 use Rattle.netlist.specs.Layout.{sizeOf}
 use Rattle.netlist.specs.Valid.{isNetlist}
-use Rattle.aiger.specs.Format.{fileOf}
+use Rattle.aiger.specs.Format.{fileWith, fileOf}
 use Rattle.aiger.proofs.FormatLaws.{trimmed-size, trimmed-file, trimmed-length, trimmed-netlist}
 use Rattle.aiger.proofs.LengthLaws.{file-length}
 use Rattle.aiger_read.specs.declared.Fault.{Fault}
@@ -28,7 +27,7 @@ use Rattle.aiger_read.proofs.CompleteLaws.{complete}
 
 module _ (text net buf : List ℕ) (f : IsFile text net) where
   fits : leb (length text) maxText ≡ true
-  fits = le-leb (length text) maxText (rw (f .is) (file-length net (f .netlist) (f .explicit)))
+  fits = rw (f .is) (le-leb (length (fileWith net (f .explicit))) maxText (omega (arith, file-length net (f .netlist) (f .explicit))))
 
   takes : length net ≤ length buf → readOf text buf ≡ readEnd (Numbers (length net)) (net ++ drop (length net) buf)
   unfolding readOf readAs
@@ -75,20 +74,21 @@ module _ (text buf : List ℕ) where
         go true g = only-as (fileRead text) refl g
         go false g = absurd (refused-numbers g)
 
-  module _ (no : (net : List ℕ) → IsFile text net → ⊥) where
+  module _ (small : length text ≤ 65536) (no : (net : List ℕ) → IsFile text net → ⊥) where
     other-as : (x : Rows) → fileRead text ≡ x → (fault : Fault) × (line : ℕ) × (readAs x buf ≡ readEnd (Refused (FaultyLine fault line)) buf)
     unfolding readAs
     other-as (rows ns free q) e = absurd (no ns (sound text ns free q e))
     other-as (failed fault line) e = (fault, line, refl)
 
-    other : (readOf text buf ≡ readEnd (Refused TextTooLong) buf) ⊎ ((fault : Fault) × (line : ℕ) × (readOf text buf ≡ readEnd (Refused (FaultyLine fault line)) buf))
+    other : (fault : Fault) × (line : ℕ) × (readOf text buf ≡ readEnd (Refused (FaultyLine fault line)) buf)
     unfolding readOf
-    other = go (leb (length text) maxText)
-      where
-        go : (t : Bool) → (cond (not t) (readEnd (Refused TextTooLong) buf) (readAs (fileRead text) buf) ≡ readEnd (Refused TextTooLong) buf)
-            ⊎ ((fault : Fault) × (line : ℕ) × (cond (not t) (readEnd (Refused TextTooLong) buf) (readAs (fileRead text) buf) ≡ readEnd (Refused (FaultyLine fault line)) buf))
-        go true = inr (other-as (fileRead text) refl)
-        go false = inl refl
+    other =
+        let x = other-as (fileRead text) refl in
+        (x .0, x .1, rw (le-leb (length text) maxText (omega (arith, small))) (x .2))
+
+  long : 65536 < length text → readOf text buf ≡ readEnd (Refused TextTooLong) buf
+  unfolding readOf
+  long h = rw (lt-leb (length text) maxText (omega (arith, h)))
 
 -- ---- what was written
 
@@ -115,4 +115,4 @@ same net other h g e =
     cc
 
 pub read-means : ReadMeans
-read-means = record { takes = takes; short = short; only = only; other = other; back = back; same = same }
+read-means = record { takes = takes; short = short; only = only; long = long; other = other; back = back; same = same }

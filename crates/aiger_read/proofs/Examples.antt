@@ -45,8 +45,20 @@ pub record Table : Type 0 where
       (12 ∷ 3 ∷ 2 ∷ 1 ∷ 7 ∷ 18 ∷ 0 ∷ 25 ∷ 0 ∷ 24 ∷ 8 ∷ 3 ∷ 10 ∷ 3 ∷ 4 ∷ 2 ∷ 16 ∷ 6 ∷ 16 ∷ 7 ∷ 4 ∷ 0 ∷ 23 ∷ 21 ∷ [])
   pub explicit : reads (latched "6 4 0\n" "12\n" "12 10 3\n") latchedNet
   pub plain : reads (latched "6 4\n" "12\n" "12 10 3\n") latchedNet
-  -- refused: the header's limits, an AND and an OR gate whose operands are in the other order
+  -- refused: the header's limits from both sides, where the first line after a header within them is missing
   pub no-input : refuses (bytes "aag 0 0 0 1 0\n0\n") OutOfLimits 1
+  pub inputs-over : refuses (bytes "aag 65 65 0 1 0\n") OutOfLimits 1
+  pub inputs-most : refuses (bytes "aag 64 64 0 1 0\n") WrongShape 2
+  pub variables-over : refuses (bytes "aag 4096 1 4095 1 0\n") OutOfLimits 1
+  pub variables-most : refuses (bytes "aag 4095 1 4094 1 0\n") WrongShape 2
+  pub header-sum : refuses (bytes "aag 3 1 1 1 0\n") OutOfLimits 1
+  pub outputs-over : refuses (bytes "aag 1 1 0 2 0\n") OutOfLimits 1
+  -- an input line: another literal, missing, six digits, five digits over 65,535
+  pub input-literal : refuses (bytes "aag 1 1 0 1 0\n4\n2\n") OutOfLimits 2
+  pub input-missing : refuses (bytes "aag 2 2 0 1 0\n2\n") WrongShape 3
+  pub six-digits : refuses (bytes "aag 1 1 0 1 0\n100000\n2\n") WrongShape 2
+  pub five-digits : refuses (bytes "aag 1 1 0 1 0\n65536\n2\n") OutOfLimits 2
+  -- an AND and an OR gate whose operands are in the other order
   pub and-gate : refuses (bytes "aag 3 2 0 1 1\n2\n4\n6\n6 2 4\n") OutOfLimits 5
   pub or-gate : refuses (bytes "aag 3 2 0 1 1\n2\n4\n7\n6 3 5\n") OutOfLimits 5
   -- a latch line: another reset, next above the largest literal, four numbers
@@ -75,6 +87,16 @@ table =
       explicit = refl;
       plain = refl;
       no-input = refl;
+      inputs-over = refl;
+      inputs-most = refl;
+      variables-over = refl;
+      variables-most = refl;
+      header-sum = refl;
+      outputs-over = refl;
+      input-literal = refl;
+      input-missing = refl;
+      six-digits = refl;
+      five-digits = refl;
       and-gate = refl;
       or-gate = refl;
       latch-reset = refl;

@@ -3,7 +3,6 @@
 use mathlib.Core.Path.{_≡_}
 use mathlib.Core.Bool.{Bool, true}
 use mathlib.Core.List.{List, _++_}
-use mathlib.Core.Logic.{_⊎_}
 use Prim.Native.Nat.{ℕ, _<_, _≤_}
 use lib.ListN.{length, take, drop}
 use Rattle.netlist.specs.Layout.{sizeOf}
@@ -32,10 +31,11 @@ pub record ReadMeans : Type 0 where
   -- what is taken is a file, and gives the numbers of its netlist
   pub only : (text buf : List ℕ) (n : ℕ) (after : List ℕ) → readOf text buf ≡ readEnd (Numbers n) after
       → (net : List ℕ) × IsFile text net × (n ≡ length net) × (after ≡ net ++ drop n buf)
-  -- what is no file is refused as too long or at a faulty line, the buffer as it was
-  pub other : (text buf : List ℕ) → ((net : List ℕ) → IsFile text net → ⊥)
-      → (readOf text buf ≡ readEnd (Refused TextTooLong) buf)
-      ⊎ ((fault : Fault) × (line : ℕ) × (readOf text buf ≡ readEnd (Refused (FaultyLine fault line)) buf))
+  -- a text of more than 65,536 bytes is refused as such, the buffer as it was
+  pub long : (text buf : List ℕ) → 65536 < length text → readOf text buf ≡ readEnd (Refused TextTooLong) buf
+  -- any other text that is no file is refused at a faulty line, the buffer as it was
+  pub other : (text buf : List ℕ) → length text ≤ 65536 → ((net : List ℕ) → IsFile text net → ⊥)
+      → (fault : Fault) × (line : ℕ) × (readOf text buf ≡ readEnd (Refused (FaultyLine fault line)) buf)
   -- what was written of a netlist, whatever its surplus, reads as the same numbers
   pub back : (net buf : List ℕ) → isNetlist net ≡ true → sizeOf net ≤ length buf
       → readOf (fileOf net) buf ≡ readEnd (Numbers (sizeOf net)) (take (sizeOf net) net ++ drop (sizeOf net) buf)

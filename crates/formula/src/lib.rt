@@ -2,8 +2,7 @@
 // the reader that judges whether a field is a formula and gives its depth and its operands and operators
 // in postfix order. Knows nothing of graphs, netlists or which names are declared. Exports that a field is
 // read as the one tree that it is the text of and that groups as the operators bind, or refused where
-// there is none; that the words of a formula are at most as many as its bytes; and that a name's word
-// tells where it stands.
+// there is none.
 ghost use mathlib.Core.Path.{_≡_};
 ghost use Rattle.formula.specs.Grammar.{none};
 ghost use Rattle.formula.specs.Reading.{answerOf, formulaOf};

@@ -13,7 +13,7 @@ use Rattle.graph.specs.declared.CheckedGraph.{CheckedGraph}
 use Rattle.graph.specs.declared.ReadOutcome.the-variants.{Checked, Refused}
 use Rattle.graph.specs.declared.GraphRead.{GraphRead}
 
--- ---- places
+-- ---- places: a text is cut at LF (10), a line at tabs (9)
 -- where line n of a text starts, n from 0, and its bytes
 unfoldable pub lineStart : Bytes → ℕ → ℕ
 lineStart text zero = 0

@@ -1,5 +1,6 @@
--- No refusal has the number 0. Assumes nothing.
-use Prim.Native.Nat.{_≤_}
+-- No refusal has the number 0, and a code tells number and line. Assumes nothing.
+use mathlib.Core.Path.{_≡_}
+use Prim.Native.Nat.{_≤_, _<_, _/_, _%_}
 use native.Mathlib.Omega.{arith}
 use Rattle.text.specs.declared.Refusal.{Refusal}
 use Rattle.graph.specs.Reading as graph
@@ -20,6 +21,7 @@ use Rattle.aiger_read.specs.Read as read
 use Rattle.calls.specs.declared.refusal.Cause as simulator
 use Rattle.calls.specs.declared.refusal.Cause.the-variants as ran
 use Rattle.calls.specs.Refusals as runs
+use Rattle.ludopoplar.specs.Codes.{codeOf}
 use Rattle.ludopoplar.specs.Claims.{Numbered}
 
 fault-numbered : (f : Fault) → 1 ≤ graph.faultNumber f
@@ -65,5 +67,21 @@ starts (ran.WrongLine line) = omega arith
 starts ran.NotNetlist = omega arith
 starts ran.FullTally = omega arith
 
+number-back : (r : Refusal) → r .line < 4294967296 → codeOf r / 4294967296 ≡ r .number
+unfolding codeOf
+number-back r h = omega arith
+
+line-back : (r : Refusal) → r .line < 4294967296 → codeOf r % 4294967296 ≡ r .line
+unfolding codeOf
+line-back r h = omega arith
+
 pub numbered : Numbered
-numbered = record { build-numbered = builds; write-numbered = writes; read-numbered = reads; run-numbered = starts }
+numbered =
+    record {
+      build-numbered = builds;
+      write-numbered = writes;
+      read-numbered = reads;
+      run-numbered = starts;
+      number-told = number-back;
+      line-told = line-back;
+    }

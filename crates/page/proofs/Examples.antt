@@ -1,5 +1,5 @@
--- The table of document 01's starred examples: what the two programs print of each, by the definitions. Assumes
--- nothing.
+-- The table of document 01's starred examples, and some more: what the two programs print of each, by the
+-- definitions. Assumes nothing.
 use mathlib.Core.Path.{_≡_, refl}
 use mathlib.Core.List.{List, [], _∷_, map}
 use Prim.Native.String.{String}
@@ -20,6 +20,7 @@ use Rattle.builder.specs.Build as build
 use Rattle.aiger.specs.Rows as rows
 use Rattle.aiger.specs.Format as format
 use Rattle.trace.specs.Traces as traces
+use Rattle.calls.specs.Refusals as calls
 use Rattle.simulator.specs.Run as run
 use Rattle.page_text.specs.Parts as parts
 use Rattle.page_text.specs.Lines as lines
@@ -60,8 +61,14 @@ monitorRows =
     ∷ row "S\tp\nS\tq\nS\tr\nV\ta\nE\ta\ta\tt\t1\tp=q=r\nT\n1000\n" "R\t1\nsum\t1\t1\trejected\n"
     -- and `p=q` at 0,0 is 1, which tells `=` from `^`
     ∷ row "S\tp\nS\tq\nV\ta\nE\ta\ta\tt\t1\tp=q\nT\n100\n" "sum\t1\t0\taccepted\n"
+    -- `p^q` at 1,1 is 0, and `!p&q` at 0,0 is 0
+    ∷ row "S\tp\nS\tq\nV\ta\nE\ta\ta\tt\t1\tp^q\nT\n111\n" "R\t1\nsum\t1\t1\trejected\n"
+    ∷ row "S\tp\nS\tq\nV\ta\nE\ta\ta\tt\t1\t!p&q\nT\n100\n" "R\t1\nsum\t1\t1\trejected\n"
     -- `10` is no formula
     ∷ row "V\ta\nE\ta\ta\tt\t10\t1\nT\n1\n" "refused\t7\t2\n"
+    -- no trace, and one whose second line is wrong
+    ∷ row "V\ta\n" "sum\t0\t0\taccepted\n"
+    ∷ row "V\ta\nT\n1\n11\n" "refused\t15\t2\n"
     ∷ []
 
 -- ---- the program that prints AIGER
@@ -73,6 +80,9 @@ aigerRows =
     -- G with `E b b t p 1`: 17 gates
     ∷ row "S\tp\nS\tq\nV\ta\nV\tb\nE\ta\tb\tt\tp\tq\nE\tb\tb\tt\tp\t1\n"
     "aag 24 3 4 1 17\n2\n4\n6\n8 30\n10 37\n12 40\n14 47\n48\n16 8 3\n18 10 3\n20 12 3\n22 14 3\n24 21 17\n26 23 19\n28 4 2\n30 28 6\n32 28 7\n34 4 0\n36 35 33\n38 25 4\n40 38 1\n42 38 0\n44 27 4\n46 45 43\n48 46 36\n"
+    -- every operator, `!` and a constant
+    ∷ row "S\tp\nK\tk\nV\ta\nE\ta\ta\tt\tp=k|!p\t0^1\n"
+    "aag 20 2 3 1 15\n2\n4\n6 6 6\n8 34\n10 41\n40\n12 8 3\n14 10 3\n16 13 3\n18 7 4\n20 19 4\n22 18 5\n24 23 21\n26 1 0\n28 1 0\n30 29 27\n32 25 17\n34 32 30\n36 32 31\n38 25 14\n40 39 37\n"
     -- no terminal edge: output literal 1
     ∷ row "S\tp\nS\tq\nV\ta\nV\tb\nE\ta\tb\t-\tp\tq\n"
     "aag 12 3 2 1 7\n2\n4\n6\n8 18\n10 25\n1\n12 8 3\n14 10 3\n16 4 2\n18 16 6\n20 16 7\n22 4 0\n24 23 21\n"
@@ -80,5 +90,5 @@ aigerRows =
 
 -- both programs print what the table says
 tables-hold : (printed monitorText monitorRows .found ≡ printed monitorText monitorRows .due) × (printed aigerText aigerRows .found ≡ printed aigerText aigerRows .due)
-unfolding numbers.digitsOf numbers.digits classes.classOf classes.strengthOf classes.isLetter classes.isWordClass classes.startOf classes.run classes.nameBytes classes.isName grammar.andThen grammar.nameOf grammar.closed grammar.whole grammar.treeOf grammar.depthOf grammar.operandOf grammar.expressionOf grammar.restOf graph.isTerminal graph.input graph.isInit graph.holds paths.rejectsAlong paths.rejectedUnder paths.isRejected paths.countRejected pieces.onto pieces.split pieces.same pieces.placeOf pieces.lookUp records.named records.marked records.edged records.ofFields records.recordOf reading.faultNumber reading.refusalOf reading.known reading.joined reading.symbol reading.resolved reading.judgedTree reading.treeExpr reading.lower reading.addSignal reading.addConstant reading.addVertex reading.edgeOf reading.unlessFaulty reading.judgeEdge reading.addEdge reading.add reading.finished reading.readLines reading.graphOf literals.literalOf literals.variableOf literals.isInverted gates.inv gates.gate monitor.firstEdgeLatch monitor.firstGate monitor.formula monitor.happyOr monitor.condemnedOr monitor.edgePiece monitor.masked monitor.gathered monitor.judged monitor.accepted monitor.gatesOf circuit.numbersOf build.refusalOf build.variablesOf rows.line rows.headerRow rows.literalRow rows.latchRow rows.gateRow format.inputLine format.latchLine format.outputLine format.gateLine format.fileWith format.fileOf traces.isBit traces.fitsLine traces.faultFrom traces.faultOf traces.lineCount traces.cyclesFrom traces.cyclesOf run.verdictOf parts.bytesBefore parts.graphPart parts.tracePart lines.field lines.refusedLine lines.rejectedLine lines.verdictField lines.sumLine lines.cycleLine lines.report pages.graphPage pages.inputsOf pages.judgement pages.tracePage pages.monitorText pages.aigerText
+unfolding numbers.digitsOf numbers.digits classes.classOf classes.strengthOf classes.isLetter classes.isWordClass classes.startOf classes.run classes.nameBytes classes.isName grammar.andThen grammar.nameOf grammar.closed grammar.whole grammar.treeOf grammar.depthOf grammar.operandOf grammar.expressionOf grammar.restOf graph.isTerminal graph.input graph.isInit graph.holds paths.rejectsAlong paths.rejectedUnder paths.isRejected paths.countRejected pieces.onto pieces.split pieces.same pieces.placeOf pieces.lookUp records.named records.marked records.edged records.ofFields records.recordOf reading.faultNumber reading.refusalOf reading.known reading.joined reading.symbol reading.resolved reading.judgedTree reading.treeExpr reading.lower reading.addSignal reading.addConstant reading.addVertex reading.edgeOf reading.unlessFaulty reading.judgeEdge reading.addEdge reading.add reading.finished reading.readLines reading.graphOf literals.literalOf literals.variableOf literals.isInverted gates.inv gates.gate monitor.firstEdgeLatch monitor.firstGate monitor.formula monitor.happyOr monitor.condemnedOr monitor.edgePiece monitor.masked monitor.gathered monitor.judged monitor.accepted monitor.gatesOf circuit.numbersOf build.refusalOf build.variablesOf rows.line rows.headerRow rows.literalRow rows.latchRow rows.gateRow format.inputLine format.latchLine format.outputLine format.gateLine format.fileWith format.fileOf traces.isBit traces.fitsLine traces.faultFrom traces.faultOf traces.lineCount traces.cyclesFrom traces.cyclesOf calls.refusalOf run.verdictOf parts.bytesBefore parts.graphPart parts.tracePart lines.field lines.refusedLine lines.rejectedLine lines.verdictField lines.sumLine lines.cycleLine lines.report pages.graphPage pages.inputsOf pages.judgement pages.tracePage pages.monitorText pages.aigerText
 tables-hold = (refl, refl)

@@ -17,6 +17,7 @@ ghost use mathlib.Core.Bool.{true};
 ghost use Prim.Native.Nat.{_≤_};
 ghost use lib.ListN.{length};
 ghost use Rattle.netlist.specs.Valid.{isNetlist};
+ghost use Rattle.assertion.specs.Paths.{PathsMean};
 ghost use Rattle.graph.specs.Reading.{graphOf};
 ghost use Rattle.aiger.specs.Format.{fileOf};
 ghost use Rattle.page_text.specs.Lines.{refusedLine, report};
@@ -166,6 +167,7 @@ fn judged_page(out: &mut [u8], graph: &[u8], trace: &[u8]) -> Paged
 pub fn monitor_page(input: &[u8], out: &mut [u8]) -> Paged
     ensures { λ r. ⌜ pageEnd r (now (out .exit)) ≡ pageOf (monitorText (now (input .entry))) (now (out .entry)) ⌝ }
     ensures fits { λ _. ⌜ length (monitorText (now (input .entry))) ≤ 250991 ⌝ }
+    ensures paths { λ _. ⌜ PathsMean ⌝ }
 {
     if input.len() > MAX_INPUT {
         let fault = InputFault::TooLong;

@@ -27,11 +27,40 @@ pub fn any(random: &mut Random) -> Vec<u8> {
 }
 
 fn written(random: &mut Random) -> Vec<u8> {
+    if random.once_in(60) {
+        return printed(&netlists::past_limit(random));
+    }
     let net = netlists::valid(random);
     let mut text = vec![0; MAX_AIGER_BYTES];
     let length = reference::write(&net, &mut text).expect("a netlist and room for its text");
     text.truncate(length);
     text
+}
+
+/// The lines of numbers in a netlist's layout, whether they are a netlist or not.
+fn printed(net: &[u16]) -> Vec<u8> {
+    let counts: Vec<usize> = net[..5].iter().map(|count| usize::from(*count)).collect();
+    let (inputs, latches) = (counts[1], counts[2]);
+    let header = net[..5].iter().map(u16::to_string).collect::<Vec<_>>();
+    let mut text = format!("aag {}\n", header.join(" "));
+    let literal = |variable: usize| 2 * variable;
+    for input in 1..=inputs {
+        text += &format!("{}\n", literal(input));
+    }
+    let (pairs, rest) = net[5..].split_at(2 * latches);
+    for (latch, pair) in pairs.chunks(2).enumerate() {
+        let own = literal(1 + inputs + latch);
+        text += &match pair[1] {
+            0 => format!("{own} {}\n", pair[0]),
+            reset => format!("{own} {} {reset}\n", pair[0]),
+        };
+    }
+    text += &format!("{}\n", rest[0]);
+    for (gate, pair) in rest[1..].chunks(2).enumerate() {
+        let own = literal(1 + inputs + latches + gate);
+        text += &format!("{own} {} {}\n", pair[0], pair[1]);
+    }
+    text.into_bytes()
 }
 
 /// Writes a reset 0 out at some latches, as the reader also takes it; sometimes

@@ -160,11 +160,14 @@ fn short_run(random: &mut Random) -> (Vec<u16>, Vec<u8>) {
     (net, trace)
 }
 
-/// A trace about the limit, over a netlist small enough for it.
+/// A trace about the limit, over a netlist small enough for it, now and then a damaged one.
 fn long_run(random: &mut Random) -> (Vec<u16>, Vec<u8>) {
     let inputs = random.pick(&[1, 2, 3, 7, 15, 31, 63, 64]);
     let others = random.within(0..=20);
-    let net = netlists::with_inputs(random, inputs, others);
+    let mut net = netlists::with_inputs(random, inputs, others);
+    if random.once_in(4) {
+        netlists::damage(random, &mut net);
+    }
     let trace = traces::near_size_limit(random, inputs);
     (net, trace)
 }

@@ -8,7 +8,10 @@ pub const MOST_NUMBERS: usize = 6 + 2 * 4_095;
 
 /// A netlist, or now and then numbers that are none, and perhaps a surplus.
 pub fn any(random: &mut Random) -> Vec<u16> {
-    let mut net = valid(random);
+    let mut net = match random.once_in(60) {
+        true => past_limit(random),
+        false => valid(random),
+    };
     for _ in 0..random.below(4) {
         net.push(random.word() as u16);
     }
@@ -24,6 +27,20 @@ pub fn valid(random: &mut Random) -> Vec<u16> {
         3..=5 => small(random),
         6 => of_size(random, 300),
         _ => of_size(random, 4_095),
+    }
+}
+
+/// One input too many, or one variable: a netlist but for that limit.
+pub fn past_limit(random: &mut Random) -> Vec<u16> {
+    match random.coin() {
+        true => {
+            let others = random.below(24);
+            with_inputs(random, 65, others)
+        }
+        false => {
+            let inputs = random.within(1..=64);
+            with_inputs(random, inputs, 4_096 - inputs)
+        }
     }
 }
 
@@ -110,7 +127,7 @@ fn operand(random: &mut Random, own: usize) -> usize {
     }
 }
 
-fn damage(random: &mut Random, net: &mut Vec<u16>) {
+pub fn damage(random: &mut Random, net: &mut Vec<u16>) {
     let place = match random.below(4) {
         0 => random.below(5),
         _ => random.below(net.len()),

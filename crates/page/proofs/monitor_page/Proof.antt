@@ -4,6 +4,7 @@ use native.Mathlib.Omega.{arith}
 use borrow.Author.Needs.{needs}
 use denote.Ref.{now}
 use lib.Seq.{length-take-le}
+use Rattle.assertion.proofs.PathLaws.{paths-mean}
 use Rattle.page_text.proofs.PartLaws.{graph-within, trace-at}
 use Rattle.page.proofs.PageLaws.{long-text, parted-text}
 use Rattle.page.proofs.LengthLaws.{monitor-fits}
@@ -23,7 +24,7 @@ returns : tie.Need-returns
 returns c =
     let e = c .before .before in
     let s = now (e .before .before .before .before .before .before .args .input) in
-    (rw (long-text s (omega arith)) (rw (e .before .refusal .ensures) at (e .refused-page .ensures)), monitor-fits s)
+    (rw (long-text s (omega arith)) (rw (e .before .refusal .ensures) at (e .refused-page .ensures)), (monitor-fits s, paths-mean))
 
 graph-length-requires : tie.Need-graph-length-requires
 graph-length-requires c κs = search needs
@@ -62,7 +63,7 @@ returns-2 c =
     let s = now (j .before .before .before .before .before .args .input) in
     let g = j .before .graph-length .ensures in
     let t = trace-at s (j .if2 .at) g (j .if2 .came) (λ w. (omega arith, omega arith)) (λ w. (omega arith, omega arith)) in
-    (rw (parted-text s (j .if2 .at) (omega arith) g (t .part)) at (e .judged-page .ensures), monitor-fits s)
+    (rw (parted-text s (j .if2 .at) (omega arith) g (t .part)) at (e .judged-page .ensures), (monitor-fits s, paths-mean))
 
 pub monitor-page-spec : {M : Type 1} → statement M
 monitor-page-spec =

@@ -1,12 +1,12 @@
--- Laws of the tests before a call: what holds where they all pass. Assumes nothing.
-use mathlib.Core.Path.{_≡_, refl, sym, _∙_}
+-- Laws of the tests before a call: what holds where they all pass, and where a run is refused for its trace. Assumes nothing.
+use mathlib.Core.Path.{_≡_, refl, sym, ap, _∙_}
 use mathlib.Core.Bool.{Bool, true, false, cond, not, _&&_, true≢false}
 use mathlib.Core.List.{List}
-use Prim.Native.Nat.{ℕ, _+_, _≤_}
+use Prim.Native.Nat.{ℕ, suc, _+_, _<_, _≤_}
 use native.Mathlib.Omega.{arith}
 use lib.Dec.{leb, eqb}
 use lib.ListN.{length}
-use borrow.Author.Tests.{eqb-true, leb-true, le-leb}
+use borrow.Author.Tests.{eqb-true, eqb-false, leb-true, le-leb, lt-leb}
 use Rattle.netlist.specs.Layout.{maximum, inputCount, latchCount}
 use Rattle.netlist.specs.Valid.{isNetlist}
 use Rattle.netlist.proofs.EachLaws.{both}
@@ -111,3 +111,48 @@ module _ (net trace : List ℕ) (nl nv nb : ℕ) (t : Tally) where
         verdicts = leb-true lines nb (h .1);
         room = f .0;
       }
+
+-- ---- a run refused for its trace
+-- one past the line that is told, 0 where none is
+unfoldable lineIn : Cause → ℕ
+lineIn TraceTooLong = 0
+lineIn ShortBuffer = 0
+lineIn (WrongLine k) = suc k
+lineIn NotNetlist = 0
+lineIn FullTally = 0
+
+unfoldable toldBy : Checked → ℕ
+toldBy Passed = 0
+toldBy (Failed cause) = lineIn cause
+
+-- behind the tests before it, and before those behind it
+line-told : (a b d g : Bool) (f k : ℕ)
+    → cond (not a) (Failed TraceTooLong) (cond (not b) (Failed NotNetlist) (cond (not (eqb f 0)) (Failed (WrongLine f)) (cond (not d) (Failed ShortBuffer) (cond (not g) (Failed FullTally) Passed)))) ≡ Failed (WrongLine k)
+    → (f ≡ k) × (0 < k)
+unfolding lineIn toldBy
+line-told false b d g f k e = absurd (omega (arith, ap toldBy e))
+line-told true false d g f k e = absurd (omega (arith, ap toldBy e))
+line-told true true d g f k e = go (eqb f 0) refl d g e
+  where
+    go : (c : Bool) → eqb f 0 ≡ c → (d g : Bool) → cond (not c) (Failed (WrongLine f)) (cond (not d) (Failed ShortBuffer) (cond (not g) (Failed FullTally) Passed)) ≡ Failed (WrongLine k) → (f ≡ k) × (0 < k)
+    go false c d g e =
+        let s : suc f ≡ suc k = ap toldBy e in
+        let z = eqb-false f 0 c in
+        let m : f ≡ k = omega arith in
+        (m, omega arith)
+    go true c false g e = absurd (omega (arith, ap toldBy e))
+    go true c true false e = absurd (omega (arith, ap toldBy e))
+    go true c true true e = absurd (omega (arith, ap toldBy e))
+
+module _ (net trace : List ℕ) (nl nv nb : ℕ) (t : Tally) where
+  -- a trace that is too long is refused before anything else
+  pub run-too-long : 1048576 < length trace → runCheck net trace nl nv nb t ≡ Failed TraceTooLong
+  unfolding runCheck isShort
+  run-too-long h = rw (lt-leb (length trace) 1048576 h)
+
+  -- the line of a refusal is the first wrong one
+  pub run-wrong-line : (k : ℕ) → runCheck net trace nl nv nb t ≡ Failed (WrongLine k) → (faultOf (inputCount net) trace ≡ k) × (0 < k)
+  unfolding runCheck
+  run-wrong-line k e =
+      let lines = lineCount (inputCount net) trace in
+      line-told (isShort trace) (isNetlist net) (hasLatches net nl && (hasValues net nv && leb lines nb)) (hasRoom t lines) (faultOf (inputCount net) trace) k e

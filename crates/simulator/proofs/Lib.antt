@@ -3,5 +3,7 @@ pub mod CycleLaws
 pub mod StartLaws
 pub mod StepLaws
 pub mod RunLaws
+pub mod RunTrace
 pub mod RunSteps
 pub mod RunMeaning
+mod Examples

@@ -11,7 +11,7 @@ use lib.ListN.{length, getD, set, drop, length-append, List·getD-append}
 use lib.Seq.{getD-at}
 use borrow.Author.Count.{below-more}
 use borrow.Author.Tests.{eqb-true, le-leb, lt-leb}
-use Rattle.netlist.specs.Layout.{latchCount}
+use Rattle.netlist.specs.Layout.{latchCount, resetAt}
 use Rattle.netlist.specs.Lanes.{lane, each, numberOf, wordOf}
 use Rattle.netlist.specs.Valid.{isFree, freeCount}
 use Rattle.netlist.proofs.EachLaws.{each-at}
@@ -131,6 +131,20 @@ module _ (net : List ℕ) where
       (λ i l. List·getD-append S (x ∷ []) 0 i (rw (length-starts count) l) ∙ start-at count i l)
       (getD-at S x [] 0 count (length-starts count)) k (omega arith)
 
+-- ---- the bit of a latch, by its reset
+module _ (net : List ℕ) (k n : ℕ) where
+  bit-zero : getD net (resetAt k) 0 ≡ 0 → startBit net k n ≡ false
+  unfolding startBit isFree
+  bit-zero e = rw e
+
+  bit-one : getD net (resetAt k) 0 ≡ 1 → startBit net k n ≡ true
+  unfolding startBit isFree
+  bit-one e = rw e
+
+  bit-free : isFree net k ≡ true → startBit net k n ≡ lane (freeCount net k) n
+  unfolding startBit
+  bit-free e = rw e
+
 -- ---- what a start answers and leaves
 module _ (net latches : List ℕ) (t : Tally) where
   pub start-refused : (c : Checked) (cause : Cause) → c ≡ startCheck net (length latches) → c ≡ Failed cause
@@ -149,9 +163,16 @@ module _ (net latches : List ℕ) (t : Tally) where
       ap (startEnd (record { outcome = Ready; tally = cleared })) (els ∙ ap (λ (i : ℕ). startWords net i ++ drop i latches) el) ∙ start-is (sym is ∙ e)
 
   -- each lane of each latch starts with its bit
-  pub start-means : StartMeans net latches t
-  start-means e n h k l =
+  pub lane-starts : startCheck net (length latches) ≡ Passed → (n : ℕ) → n < 64 → (k : ℕ) → k < latchCount net
+      → lane n (getD (startOf net latches t .latches) k 0) ≡ startBit net k n
+  lane-starts e n h k l =
       let S = startWords net (latchCount net) in
       rw (← (start-is e))
       (ap (lane n) (List·getD-append S (drop (latchCount net) latches) 0 k (rw (length-starts net (latchCount net)) l) ∙ start-at net (latchCount net) k l)
       ∙ lane-word n (startBit net k) h)
+
+  -- and that bit is its reset, or of the lane's number
+  pub start-means : StartMeans net latches t
+  start-means e n h k l =
+      let b = lane-starts e n h k l in
+      record { zeros = λ z. b ∙ bit-zero net k n z; ones = λ o. b ∙ bit-one net k n o; free = λ f. b ∙ bit-free net k n f }

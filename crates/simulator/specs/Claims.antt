@@ -1,29 +1,40 @@
 -- What the contracts of start, step and run claim of their definitions. Assumes nothing.
 use mathlib.Core.Path.{_≡_}
-use mathlib.Core.Bool.{Bool}
+use mathlib.Core.Bool.{Bool, true, false}
 use mathlib.Core.List.{List, [], _∷_, _++_, map}
-use Prim.Native.Nat.{ℕ, _+_, _<_}
+use Prim.Native.Nat.{ℕ, suc, _+_, _<_}
 use lib.ListN.{length, getD, take}
-use Rattle.netlist.specs.Layout.{maximum, inputCount, latchCount, nextAt, outputAt}
+use Rattle.netlist.specs.Layout.{maximum, inputCount, latchCount, nextAt, resetAt, outputAt}
 use Rattle.netlist.specs.Lanes.{lane}
 use Rattle.netlist.specs.Meaning.{bools, bitOf, litOf}
 use Rattle.netlist.specs.Aiger.{Satisfies}
+use Rattle.netlist.specs.Valid.{isFree, freeCount}
 use Rattle.calls.specs.declared.refusal.Cause.{Cause}
+use Rattle.calls.specs.declared.refusal.Cause.the-variants.{TraceTooLong, WrongLine}
 use Rattle.calls.specs.declared.refusal.Checked.the-variants.{Passed}
 use Rattle.simulator.specs.declared.outcome.StepOutcome.{StepOutcome}
 use Rattle.simulator.specs.declared.outcome.StepOutcome.the-variants.{Output, Refused}
+use Rattle.simulator.specs.declared.outcome.RunOutcome.the-variants as run
 use Rattle.calls.specs.declared.tally.Tally.{Tally}
 use Rattle.trace.specs.Traces.{cyclesOf}
+use Rattle.trace.specs.Claims.{FirstWrong, TraceMeans}
 use Rattle.calls.specs.Refusals.{startCheck, stepCheck, runCheck}
-use Rattle.simulator.specs.Start.{startBit, startOf}
+use Rattle.simulator.specs.Start.{startOf}
 use Rattle.simulator.specs.Step.{StepEnd, stepOf}
 use Rattle.simulator.specs.Run.{Running, running, verdictByte, ranTo, runOf}
 
--- ---- start: each lane of each latch starts with its bit
+-- ---- start: what lane n of latch k's word is after a start that is not refused
+pub record LaneOfStart (n k : ℕ) (net : List ℕ) (word : ℕ) : Type 0 where
+  -- reset 0 starts as 0, reset 1 as 1
+  pub zeros : getD net (resetAt k) 0 ≡ 0 → lane n word ≡ false
+  pub ones : getD net (resetAt k) 0 ≡ 1 → lane n word ≡ true
+  -- an uninitialised latch, the j-th from 0, starts as bit j of n
+  pub free : isFree net k ≡ true → lane n word ≡ lane (freeCount net k) n
+
 abbrev pub StartMeans : List ℕ → List ℕ → Tally → Type 0
 StartMeans net latches t =
     startCheck net (length latches) ≡ Passed → (n : ℕ) → n < 64 → (k : ℕ) → k < latchCount net
-    → lane n (getD (startOf net latches t .latches) k 0) ≡ startBit net k n
+    → LaneOfStart n k net (getD (startOf net latches t .latches) k 0)
 
 -- ---- step: what lane n of a step that is not refused shows
 -- lane n of the latches before it, and of the values that it leaves
@@ -48,6 +59,16 @@ abbrev pub StepMeans : List ℕ → List ℕ → List ℕ → List ℕ → Tally
 StepMeans net cycle latches values t =
     stepCheck net cycle (length latches) (length values) t ≡ Passed → (n : ℕ) → n < 64
     → LaneOfStep n net cycle latches (stepOf net cycle latches values t)
+
+-- ---- run: what its trace is, and when it is refused for it
+pub record TraceOfRun (net trace latches values verdicts : List ℕ) (t : Tally) : Type 0 where
+  -- the trace is the lines of its cycles, or a line of it is wrong
+  pub means : TraceMeans (inputCount net) trace
+  -- a trace over 1,048,576 bytes is refused as that, whatever else was lent
+  pub long : 1048576 < length trace → runOf net trace latches values verdicts t .answer .outcome ≡ run.Refused TraceTooLong
+  -- a refusal that tells a line, from 1, tells the first wrong one
+  pub line : (k : ℕ) → runOf net trace latches values verdicts t .answer .outcome ≡ run.Refused (WrongLine k)
+      → (j : ℕ) × (k ≡ suc j) × FirstWrong (inputCount net) j trace
 
 -- ---- run: a run that is not refused is its steps, one after another
 -- what steps come to: what a run holds after them, or a refusal

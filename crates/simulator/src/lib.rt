@@ -7,10 +7,8 @@ ghost use Prim.Native.Nat.{ℕ};
 ghost use Rattle.simulator.specs.Start.{startEnd, startOf};
 ghost use Rattle.simulator.specs.Step.{stepEnd, stepOf};
 ghost use Rattle.simulator.specs.Run.{runEnd, runOf};
-ghost use Rattle.simulator.specs.Claims.{StartMeans, StepMeans, RunIsSteps};
+ghost use Rattle.simulator.specs.Claims.{StartMeans, StepMeans, TraceOfRun, RunIsSteps};
 ghost use Rattle.calls.specs.Tallies.{RejectedByLane};
-ghost use Rattle.netlist.specs.Layout.{inputCount};
-ghost use Rattle.trace.specs.Claims.{TraceMeans};
 
 mod cycle;
 mod latches;
@@ -100,7 +98,7 @@ pub fn run(
     tally: Tally,
 ) -> Ran
     ensures { λ r. ⌜ runEnd r (now (latches .exit)) (now (values .exit)) (now (verdicts .exit)) ≡ runOf (now (net .entry)) (now (trace .entry)) (now (latches .entry)) (now (values .entry)) (now (verdicts .entry)) tally ⌝ }
-    ensures trace { λ _. ⌜ TraceMeans (inputCount (now (net .entry))) (now (trace .entry)) ⌝ }
+    ensures trace { λ _. ⌜ TraceOfRun (now (net .entry)) (now (trace .entry)) (now (latches .entry)) (now (values .entry)) (now (verdicts .entry)) tally ⌝ }
     ensures steps { λ _. ⌜ RunIsSteps (now (net .entry)) (now (trace .entry)) (now (latches .entry)) (now (values .entry)) (now (verdicts .entry)) tally ⌝ }
 {
     let checked = run_check(

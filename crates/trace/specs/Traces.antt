@@ -16,7 +16,7 @@ unfoldable pub isCycle : ℕ → List ℕ → Bool
 isCycle n cycle = eqb (length cycle) n && each (length cycle) (λ k. isBit (getD cycle k 0))
 
 -- ---- the first wrong line
--- the byte b may stand at place col of a line of n inputs
+-- the byte b may stand at place col of a line of n inputs: LF (10) after them, `0` or `1` before
 unfoldable pub fitsLine : ℕ → ℕ → ℕ → Bool
 fitsLine n col b = cond (eqb col n) (eqb b 10) (isBit b)
 

@@ -53,6 +53,12 @@ pub record Table : Type 0 where
   pub variables-most : refuses (bytes "aag 4095 1 4094 1 0\n") WrongShape 2
   pub header-sum : refuses (bytes "aag 3 1 1 1 0\n") OutOfLimits 1
   pub outputs-over : refuses (bytes "aag 1 1 0 2 0\n") OutOfLimits 1
+  pub header-less : refuses (bytes "aag 2 1 1 1 1\n") OutOfLimits 1
+  pub outputs-none : refuses (bytes "aag 1 1 0 0 0\n2\n") OutOfLimits 1
+  pub header-shape : refuses (bytes "aag 1 1 0 1\n") WrongShape 1
+  -- the first faulty line decides, and in a line shape comes before limits
+  pub first-line : refuses (bytes "aag 2 2 0 1 0\n6\n") OutOfLimits 2
+  pub shape-first : refuses (latched "6 14 0 0\n" "12\n" "12 10 3\n") WrongShape 4
   -- an input line: another literal, missing, six digits, five digits over 65,535
   pub input-literal : refuses (bytes "aag 1 1 0 1 0\n4\n2\n") OutOfLimits 2
   pub input-missing : refuses (bytes "aag 2 2 0 1 0\n2\n") WrongShape 3
@@ -93,6 +99,11 @@ table =
       variables-most = refl;
       header-sum = refl;
       outputs-over = refl;
+      header-less = refl;
+      outputs-none = refl;
+      header-shape = refl;
+      first-line = refl;
+      shape-first = refl;
       input-literal = refl;
       input-missing = refl;
       six-digits = refl;

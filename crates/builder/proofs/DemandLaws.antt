@@ -2,13 +2,14 @@
 use mathlib.Core.Path.{_≡_, refl, sym, subst, _∙_}
 use mathlib.Core.Bool.{Bool, true, false, cond, not}
 use mathlib.Core.List.{List, [], _++_, append-nil}
-use Prim.Native.Nat.{ℕ, _+_, _*_, _≤_}
+use Prim.Native.Nat.{ℕ, _+_, _*_, _≤_, _<_}
 use native.Mathlib.Omega.{arith}
-use borrow.Author.Tests.{leb-true, le-leb}
+use borrow.Author.Tests.{leb-true, le-leb, lt-leb}
 use lib.Dec.{leb}
 use lib.ListN.{length, drop}
 use Rattle.assertion.specs.Graph.{Bytes, Graph}
-use Rattle.graph.specs.Reading.{accepted, graphOf}
+use Rattle.graph.specs.Reading.{refused, accepted, graphOf}
+use Rattle.graph.specs.declared.Cause as graph
 use Rattle.netlist.specs.Valid.{isNetlist}
 use Rattle.netlist.proofs.ValidLaws.{Valid, valid}
 use Rattle.circuit.specs.Build.{gatesOf}
@@ -17,7 +18,7 @@ use Rattle.circuit.proofs.Fits.{Fits}
 use Rattle.circuit.proofs.Netlist.{numbers-netlist}
 use Rattle.demand.proofs.Demand.{demand3}
 use Rattle.demand.proofs.Forms.{either-form}
-use Rattle.builder.specs.declared.Cause.the-variants.{TooManyVariables, ShortBuffer}
+use Rattle.builder.specs.declared.Cause.the-variants.{GraphText, TooManyVariables, ShortBuffer}
 use Rattle.builder.specs.declared.Built.the-variants.{Gates, Refused}
 use Rattle.builder.specs.Build.{variablesOf, BuildEnd, buildEnd, buildAs, buildOf}
 use Rattle.builder.specs.Claims.{BuildMeans}
@@ -53,6 +54,14 @@ built : (g : Graph) (net : List ℕ) → isNetlist (numbersOf g) ≡ true → le
 unfolding buildAs
 built g net n l = rw (le-leb (variablesOf g) 4095 (netlist-small g n), le-leb (length (numbersOf g)) (length net) l)
 
+too-short : (g : Graph) (net : List ℕ) → isNetlist (numbersOf g) ≡ true → length net < length (numbersOf g) → buildAs (accepted g) net ≡ buildEnd (Refused ShortBuffer) net
+unfolding buildAs
+too-short g net n l = rw (le-leb (variablesOf g) 4095 (netlist-small g n), lt-leb (length (numbersOf g)) (length net) l)
+
+unread-text : (cause : graph.Cause) (net : List ℕ) → buildAs (refused cause) net ≡ buildEnd (Refused (GraphText cause)) net
+unfolding buildAs
+unread-text cause net = refl
+
 too-many : (g : Graph) (net : List ℕ) → Fits g → isNetlist (numbersOf g) ≡ false → buildAs (accepted g) net ≡ buildEnd (Refused TooManyVariables) net
 unfolding buildAs variablesOf
 too-many g net f n = go (leb (variablesOf g) 4095) refl
@@ -78,6 +87,8 @@ build-means text net =
           let m = so g made e a in
           rw (m .count) (demand3 g (fits text e) (small g (m .small)) surplus);
       accepts = λ g e n l. rw e (built g net n l);
+      short = λ g e n l. rw e (too-short g net n l);
+      unread = λ cause e. rw e (unread-text cause net);
       refuses = λ g e n. rw e (too-many g net (fits text e) n);
       forms = either-form;
     }

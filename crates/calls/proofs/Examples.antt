@@ -127,7 +127,15 @@ run-passes : runCheck latched (49 ∷ 10 ∷ 48 ∷ 10 ∷ []) 1 3 2 (tally 4294
 unfolding runCheck isShort hasValues hasRoom faultOf faultFrom fitsLine lineCount isBit hasLatches isNetlist headerOk outputOk latchOk gateOk isWithin isFree freeCount each literalOf
 run-passes = refl
 
--- the empty trace needs no room
+run-17-rejected : runCheck latched (49 ∷ 10 ∷ 48 ∷ 10 ∷ []) 1 3 2 (tally 0 4294967294) ≡ Failed FullTally
+unfolding runCheck isShort hasValues hasRoom faultOf faultFrom fitsLine lineCount isBit hasLatches isNetlist headerOk outputOk latchOk gateOk isWithin isFree freeCount each literalOf
+run-17-rejected = refl
+
+-- the empty trace needs its value words, and no room
+run-empty-12 : runCheck plain [] 0 1 0 (tally 0 0) ≡ Failed ShortBuffer
+unfolding runCheck isShort hasValues hasRoom faultOf faultFrom fitsLine lineCount isBit hasLatches isNetlist headerOk outputOk latchOk gateOk isWithin isFree freeCount each literalOf
+run-empty-12 = refl
+
 run-empty : runCheck plain [] 0 2 0 (tally 4294967295 4294967295) ≡ Passed
 unfolding runCheck isShort hasValues hasRoom faultOf faultFrom fitsLine lineCount isBit hasLatches isNetlist headerOk outputOk latchOk gateOk isWithin isFree freeCount each literalOf
 run-empty = refl

@@ -80,7 +80,7 @@ aigerRows =
     -- G with `E b b t p 1`: 17 gates
     ∷ row "S\tp\nS\tq\nV\ta\nV\tb\nE\ta\tb\tt\tp\tq\nE\tb\tb\tt\tp\t1\n"
     "aag 24 3 4 1 17\n2\n4\n6\n8 30\n10 37\n12 40\n14 47\n48\n16 8 3\n18 10 3\n20 12 3\n22 14 3\n24 21 17\n26 23 19\n28 4 2\n30 28 6\n32 28 7\n34 4 0\n36 35 33\n38 25 4\n40 38 1\n42 38 0\n44 27 4\n46 45 43\n48 46 36\n"
-    -- every operator, `!` and a constant
+    -- `=`, `|`, `^`, `!` and a constant
     ∷ row "S\tp\nK\tk\nV\ta\nE\ta\ta\tt\tp=k|!p\t0^1\n"
     "aag 20 2 3 1 15\n2\n4\n6 6 6\n8 34\n10 41\n40\n12 8 3\n14 10 3\n16 13 3\n18 7 4\n20 19 4\n22 18 5\n24 23 21\n26 1 0\n28 1 0\n30 29 27\n32 25 17\n34 32 30\n36 32 31\n38 25 14\n40 39 37\n"
     -- no terminal edge: output literal 1

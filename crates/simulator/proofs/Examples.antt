@@ -1,4 +1,4 @@
--- A start, computed: one input and four latches, with the resets 0, 1 and twice the latch's own literal. Assumes nothing.
+-- A start, computed: one input and four latches, of which the last two are uninitialised, the others with resets 0 and 1. Assumes nothing.
 use Prim.Native.Nat.{ℕ}
 use mathlib.Core.Path.{_≡_, refl}
 use mathlib.Core.List.{List, [], _∷_}

@@ -2,13 +2,13 @@
 use mathlib.Core.Path.{_≡_}
 use mathlib.Core.Bool.{Bool, true, false}
 use mathlib.Core.List.{List, [], _∷_, _++_, map}
-use Prim.Native.Nat.{ℕ, suc, _+_, _<_}
+use Prim.Native.Nat.{ℕ, suc, _+_, _<_, _≤_}
 use lib.ListN.{length, getD, take}
 use Rattle.netlist.specs.Layout.{maximum, inputCount, latchCount, nextAt, resetAt, outputAt}
 use Rattle.netlist.specs.Lanes.{lane}
 use Rattle.netlist.specs.Meaning.{bools, bitOf, litOf}
 use Rattle.netlist.specs.Aiger.{Satisfies}
-use Rattle.netlist.specs.Valid.{isFree, freeCount}
+use Rattle.netlist.specs.Valid.{isFree, freeCount, isNetlist}
 use Rattle.calls.specs.declared.refusal.Cause.{Cause}
 use Rattle.calls.specs.declared.refusal.Cause.the-variants.{TraceTooLong, WrongLine}
 use Rattle.calls.specs.declared.refusal.Checked.the-variants.{Passed}
@@ -16,12 +16,12 @@ use Rattle.simulator.specs.declared.outcome.StepOutcome.{StepOutcome}
 use Rattle.simulator.specs.declared.outcome.StepOutcome.the-variants.{Output, Refused}
 use Rattle.simulator.specs.declared.outcome.RunOutcome.the-variants as run
 use Rattle.calls.specs.declared.tally.Tally.{Tally}
-use Rattle.trace.specs.Traces.{cyclesOf}
+use Rattle.trace.specs.Traces.{faultOf, cyclesOf}
 use Rattle.trace.specs.Claims.{FirstWrong, TraceMeans}
 use Rattle.calls.specs.Refusals.{startCheck, stepCheck, runCheck}
 use Rattle.simulator.specs.Start.{startOf}
 use Rattle.simulator.specs.Step.{StepEnd, stepOf}
-use Rattle.simulator.specs.Run.{Running, running, verdictByte, ranTo, runOf}
+use Rattle.simulator.specs.Run.{Running, running, verdictByte, runEnd, ranTo, runOf}
 
 -- ---- start: what lane n of latch k's word is after a start that is not refused
 pub record LaneOfStart (n k : ℕ) (net : List ℕ) (word : ℕ) : Type 0 where
@@ -64,8 +64,12 @@ StepMeans net cycle latches values t =
 pub record TraceOfRun (net trace latches values verdicts : List ℕ) (t : Tally) : Type 0 where
   -- the trace is the lines of its cycles, or a line of it is wrong
   pub means : TraceMeans (inputCount net) trace
-  -- a trace over 1,048,576 bytes is refused as that, whatever else was lent
-  pub long : 1048576 < length trace → runOf net trace latches values verdicts t .answer .outcome ≡ run.Refused TraceTooLong
+  -- a trace over 1,048,576 bytes is refused as that, whatever else was lent, and all stays as it was
+  pub long : 1048576 < length trace
+      → runOf net trace latches values verdicts t ≡ runEnd (record { outcome = run.Refused TraceTooLong; tally = t }) latches values verdicts
+  -- a wrong line of any other trace, on a netlist, is told before the buffers and the tally are looked at
+  pub wrong : (j : ℕ) → length trace ≤ 1048576 → isNetlist net ≡ true → faultOf (inputCount net) trace ≡ suc j
+      → runOf net trace latches values verdicts t ≡ runEnd (record { outcome = run.Refused (WrongLine (suc j)); tally = t }) latches values verdicts
   -- a refusal that tells a line, from 1, tells the first wrong one
   pub line : (k : ℕ) → runOf net trace latches values verdicts t .answer .outcome ≡ run.Refused (WrongLine k)
       → (j : ℕ) × (k ≡ suc j) × FirstWrong (inputCount net) j trace

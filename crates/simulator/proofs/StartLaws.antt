@@ -2,8 +2,8 @@
 use mathlib.Core.Path.{_≡_, refl, sym, ap, ap₂, _∙_}
 use mathlib.Core.Bool.{Bool, true, false, cond, not}
 use mathlib.Core.List.{List, [], _∷_, _++_}
-use Prim.Native.Nat.{ℕ, zero, suc, _+_, _-_, _*_, _/_, _^_, _<_, _≤_}
-use native.Mathlib.Nat.{pow-suc, add-zero}
+use Prim.Native.Nat.{ℕ, zero, suc, _+_, _-_, _*_, _/_, _%_, _^_, _<_, _≤_}
+use native.Mathlib.Nat.{pow-suc, add-zero, one-mul, mod-eq-of-lt, pow-le-pow-right}
 use native.Mathlib.Numerals.{add-one}
 use native.Mathlib.Omega.{arith}
 use lib.Dec.{leb, eqb}
@@ -16,7 +16,7 @@ use Rattle.netlist.specs.Lanes.{lane, each, numberOf, wordOf}
 use Rattle.netlist.specs.Valid.{isFree, freeCount}
 use Rattle.netlist.proofs.EachLaws.{each-at}
 use Rattle.netlist.proofs.LaneLaws.{lane-word, word-same}
-use Rattle.netlist.proofs.ValidLaws.{free-more}
+use Rattle.netlist.proofs.ValidLaws.{free-more, free-below}
 use Rattle.calls.specs.declared.refusal.Cause.{Cause}
 use Rattle.calls.specs.declared.refusal.Checked.{Checked}
 use Rattle.calls.specs.declared.refusal.Checked.the-variants.{Passed, Failed}
@@ -24,8 +24,9 @@ use Rattle.simulator.specs.declared.outcome.StartOutcome.the-variants.{R
 use Rattle.calls.specs.declared.tally.Tally.{Tally}
 use Rattle.calls.specs.Tallies.{cleared}
 use Rattle.calls.specs.Refusals.{startCheck}
+use Rattle.calls.proofs.RefusalLaws.{start-passed}
 use Rattle.simulator.specs.Start.{startBit, startWords, startEnd, startAs, startOf}
-use Rattle.simulator.specs.Claims.{StartMeans}
+use Rattle.simulator.specs.Claims.{freeWord, WordsOfStart, StartMeans}
 use Rattle.simulator.proofs.CycleLaws.{grow}
 
 -- ---- the first word of a latch, by its reset
@@ -37,24 +38,32 @@ pub reset-high : 18446744073709551615 ≡ wordOf (λ n. true)
 unfolding wordOf numberOf
 reset-high = refl
 
--- ---- the table: word j has in lane n bit j of n
-unfoldable pub patterns : List ℕ
-patterns =
-    12297829382473034410
-    ∷ 14757395258967641292
-    ∷ 17361641481138401520
-    ∷ 18374966859414961920
-    ∷ 18446462603027742720
-    ∷ 18446744069414584320
-    ∷ []
+-- ---- the words of the uninitialised latches
+-- one computed test of all lanes of all six
+words-tested : each 6 (λ j. eqb (freeWord j) (wordOf (λ n. lane j n))) ≡ true
+unfolding each lane wordOf numberOf
+words-tested = refl
 
--- one computed test of all lanes of all words
-table : each 6 (λ j. eqb (getD patterns j 0) (wordOf (λ n. lane j n))) ≡ true
-unfolding each lane wordOf numberOf patterns
-table = refl
+pub free-word : (j : ℕ) → j < 6 → freeWord j ≡ wordOf (λ n. lane j n)
+free-word j h = eqb-true _ _ (each-at (λ i. eqb (freeWord i) (wordOf (λ n. lane i n))) 6 words-tested j h)
 
-pub pattern-word : (j : ℕ) → j < 6 → getD patterns j 0 ≡ wordOf (λ n. lane j n)
-pattern-word j h = eqb-true _ _ (each-at (λ i. eqb (getD patterns i 0) (wordOf (λ n. lane i n))) 6 table j h)
+-- 1 shifted by fewer than 64 places
+shifted : (k : ℕ) → k ≤ 63 → (1 * 2 ^ k) % 2 ^ 64 ≡ 2 ^ k
+shifted k h = ap (λ (n : ℕ). n % 2 ^ 64) (one-mul (2 ^ k)) ∙ mod-eq-of-lt (omega (arith, pow-le-pow-right {n = 2} (omega arith) h))
+
+-- 2 ^ j and 2 ^ (2 ^ j): what the shifts give, and how large it is at most
+module _ (j : ℕ) (h : j < 6) where
+  pub row-most : 2 ^ j ≤ 32
+  row-most = pow-le-pow-right {n = 2} (omega arith) {i = j} {j = 5} (omega arith)
+
+  pub row-shift : (1 * 2 ^ j) % 2 ^ 64 ≡ 2 ^ j
+  row-shift = shifted j (omega arith)
+
+  pub power-most : 2 ^ (2 ^ j) ≤ 4294967296
+  power-most = pow-le-pow-right {n = 2} (omega arith) {j = 32} row-most
+
+  pub power-shift : (1 * 2 ^ (2 ^ j)) % 2 ^ 64 ≡ 2 ^ (2 ^ j)
+  power-shift = shifted (2 ^ j) (omega (arith, row-most))
 
 half-lt-pow : {a : ℕ} (k : ℕ) → a < 2 ^ suc k → a / 2 < 2 ^ k
 half-lt-pow k h = let e = pow-suc 2 k in omega arith
@@ -162,17 +171,30 @@ module _ (net latches : List ℕ) (t : Tally) where
   start-ready c is e l el ls els =
       ap (startEnd (record { outcome = Ready; tally = cleared })) (els ∙ ap (λ (i : ℕ). startWords net i ++ drop i latches) el) ∙ start-is (sym is ∙ e)
 
+  -- each latch starts with its word
+  word-starts : startCheck net (length latches) ≡ Passed → (k : ℕ) → k < latchCount net → getD (startOf net latches t .latches) k 0 ≡ wordOf (startBit net k)
+  word-starts e k l =
+      let S = startWords net (latchCount net) in
+      rw (← (start-is e))
+      (List·getD-append S (drop (latchCount net) latches) 0 k (rw (length-starts net (latchCount net)) l) ∙ start-at net (latchCount net) k l)
+
   -- each lane of each latch starts with its bit
   pub lane-starts : startCheck net (length latches) ≡ Passed → (n : ℕ) → n < 64 → (k : ℕ) → k < latchCount net
       → lane n (getD (startOf net latches t .latches) k 0) ≡ startBit net k n
-  lane-starts e n h k l =
-      let S = startWords net (latchCount net) in
-      rw (← (start-is e))
-      (ap (lane n) (List·getD-append S (drop (latchCount net) latches) 0 k (rw (length-starts net (latchCount net)) l) ∙ start-at net (latchCount net) k l)
-      ∙ lane-word n (startBit net k) h)
+  lane-starts e n h k l = ap (lane n) (word-starts e k l) ∙ lane-word n (startBit net k) h
 
   -- and that bit is its reset, or of the lane's number
   pub start-means : StartMeans net latches t
   start-means e n h k l =
       let b = lane-starts e n h k l in
       record { zeros = λ z. b ∙ bit-zero net k n z; ones = λ o. b ∙ bit-one net k n o; free = λ f. b ∙ bit-free net k n f }
+
+  -- the words of the uninitialised latches are those that the formula gives
+  pub start-computed : WordsOfStart net latches t
+  start-computed = record { lanes = free-word; free = words-free }
+    where
+      words-free : startCheck net (length latches) ≡ Passed → (k : ℕ) → k < latchCount net → isFree net k ≡ true
+          → (freeCount net k < 6) × (getD (startOf net latches t .latches) k 0 ≡ freeWord (freeCount net k))
+      words-free e k l f =
+          let b = free-below net (start-passed net (length latches) _ refl e .netlist) k l f in
+          (b, word-starts e k l ∙ word-same (startBit net k) (λ n. lane (freeCount net k) n) (λ n h. bit-free net k n f) ∙ sym (free-word (freeCount net k) b))

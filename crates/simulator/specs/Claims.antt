@@ -2,11 +2,11 @@
 use mathlib.Core.Path.{_≡_}
 use mathlib.Core.Bool.{Bool, true, false}
 use mathlib.Core.List.{List, [], _∷_, _++_, map}
-use Prim.Native.Nat.{ℕ, suc, _+_, _<_, _≤_}
+use Prim.Native.Nat.{ℕ, suc, _+_, _-_, _/_, _^_, _<_, _≤_}
 use lib.ListN.{length, getD, take}
 use Rattle.netlist.specs.Layout.{maximum, inputCount, latchCount, nextAt, resetAt, outputAt}
-use Rattle.netlist.specs.Lanes.{lane}
-use Rattle.netlist.specs.Meaning.{bools, bitOf, litOf}
+use Rattle.netlist.specs.Lanes.{lane, wordOf}
+use Rattle.netlist.specs.Meaning.{bools, words, bitOf, litOf}
 use Rattle.netlist.specs.Aiger.{Satisfies}
 use Rattle.netlist.specs.Valid.{isFree, freeCount, isNetlist}
 use Rattle.calls.specs.declared.refusal.Cause.{Cause}
@@ -35,6 +35,17 @@ abbrev pub StartMeans : List ℕ → List ℕ → Tally → Type 0
 StartMeans net latches t =
     startCheck net (length latches) ≡ Passed → (n : ℕ) → n < 64 → (k : ℕ) → k < latchCount net
     → LaneOfStart n k net (getD (startOf net latches t .latches) k 0)
+
+-- document 02, No. 4: "compute word j as the inverse of (2^64 − 1) ÷ (2^(2^j) + 1)"
+abbrev pub freeWord : ℕ → ℕ
+freeWord j = words .invert ((2 ^ 64 - 1) / (2 ^ (2 ^ j) + 1))
+
+pub record WordsOfStart (net latches : List ℕ) (t : Tally) : Type 0 where
+  -- for j below 6 that is the word whose lane n is bit j of n
+  pub lanes : (j : ℕ) → j < 6 → freeWord j ≡ wordOf (λ n. lane j n)
+  -- a start that is not refused leaves it in the j-th uninitialised latch, j from 0, and j is below 6
+  pub free : startCheck net (length latches) ≡ Passed → (k : ℕ) → k < latchCount net → isFree net k ≡ true
+      → (freeCount net k < 6) × (getD (startOf net latches t .latches) k 0 ≡ freeWord (freeCount net k))
 
 -- ---- step: what lane n of a step that is not refused shows
 -- lane n of the latches before it, and of the values that it leaves

@@ -10,21 +10,18 @@ ghost use Rattle.simulator.specs.Start.{startWords};
 use crate::layout::HEADER;
 use calls::ALL_LANES;
 
-// Word j has in lane n bit j of n.
-const PATTERNS: [u64; 6] = [
-    12297829382473034410,
-    14757395258967641292,
-    17361641481138401520,
-    18374966859414961920,
-    18446462603027742720,
-    18446744069414584320,
-];
-
-// The first word of the j-th uninitialised latch, j from 0: past the sixth no lane has the bit.
+// The first word of the j-th uninitialised latch, j from 0: the inverse of (2^64 - 1) / (2^(2^j) + 1).
+// Past the sixth no lane has the bit.
 fn pattern(j: usize) -> u64
     ensures { λ r. ⌜ r ≡ wordOf (λ n. lane j n) ⌝ }
 {
-    if j < 6 { PATTERNS[j] } else { 0 }
+    if j >= 6 {
+        return 0;
+    }
+    // bit j is the same in so many lanes in a row
+    let row: u64 = 1 << j;
+    let divisor: u64 = (1 << row) + 1;
+    (ALL_LANES / divisor) ^ ALL_LANES
 }
 
 // The first word of a latch with this reset, where j uninitialised latches stand before it.

@@ -7,7 +7,7 @@ ghost use Prim.Native.Nat.{ℕ};
 ghost use Rattle.simulator.specs.Start.{startEnd, startOf};
 ghost use Rattle.simulator.specs.Step.{stepEnd, stepOf};
 ghost use Rattle.simulator.specs.Run.{runEnd, runOf};
-ghost use Rattle.simulator.specs.Claims.{StartMeans, StepMeans, TraceOfRun, RunIsSteps};
+ghost use Rattle.simulator.specs.Claims.{StartMeans, WordsOfStart, StepMeans, TraceOfRun, RunIsSteps};
 ghost use Rattle.calls.specs.Tallies.{RejectedByLane};
 
 mod cycle;
@@ -40,6 +40,7 @@ pub use outcome::Verdict;
 pub fn start(net: &[u16], latches: &mut [u64], tally: Tally) -> Started
     ensures { λ r. ⌜ startEnd r (now (latches .exit)) ≡ startOf (now (net .entry)) (now (latches .entry)) tally ⌝ }
     ensures lanes { λ _. ⌜ StartMeans (now (net .entry)) (now (latches .entry)) tally ⌝ }
+    ensures computed { λ _. ⌜ WordsOfStart (now (net .entry)) (now (latches .entry)) tally ⌝ }
 {
     let checked = start_check(net, latches.len());
     match checked {

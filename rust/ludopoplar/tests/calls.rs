@@ -1,4 +1,4 @@
-//! Document 01's graph G through the safe calls.
+//! The safe calls: document 01's graph G, the words of a start, empty slices, refusals.
 
 use ludopoplar::{build, read, run, start, step, write, Refusal, Tally, Verdict};
 
@@ -46,6 +46,51 @@ fn run_and_step() {
         rejected: 2,
     };
     assert_eq!(tally, due);
+}
+
+/// A netlist of one input and a latch for each reset, whose output is the input.
+fn latches_with(resets: &[u16]) -> Vec<u16> {
+    let count = resets.len() as u16;
+    let mut net = vec![1 + count, 1, count, 1, 0];
+    for reset in resets {
+        net.extend([2, *reset]);
+    }
+    net.push(2);
+    net
+}
+
+/// Document 02, No. 4: each word as a number.
+#[test]
+fn start_words() {
+    let words: [u64; 6] = [
+        12297829382473034410,
+        14757395258967641292,
+        17361641481138401520,
+        18374966859414961920,
+        18446462603027742720,
+        18446744069414584320,
+    ];
+    let started = |resets: &[u16]| {
+        let (mut latches, mut tally) = ([5; 8], Tally::default());
+        let answer = start(&latches_with(resets), &mut latches, &mut tally);
+        (answer, latches)
+    };
+    let [w0, w1, w2, w3, w4, w5] = words;
+    assert_eq!(
+        started(&[4, 6, 8, 10, 12, 14]),
+        (Ok(()), [w0, w1, w2, w3, w4, w5, 5, 5])
+    );
+    assert_eq!(
+        started(&[4, 0, 8, 1, 12]),
+        (Ok(()), [w0, 0, w1, u64::MAX, w2, 5, 5, 5])
+    );
+    assert_eq!(started(&[]), (Ok(()), [5; 8]));
+    let refused = Refusal {
+        number: 16,
+        line: 0,
+    };
+    let seven = started(&[4, 6, 8, 10, 12, 14, 16]);
+    assert_eq!(seven, (Err(refused), [5; 8]));
 }
 
 #[test]

@@ -1,5 +1,4 @@
 -- `simulator::latches::pattern` meets its contract. Assumes nothing.
-use Prim.Native.Nat.{_<_}
 use native.Mathlib.Omega.{arith}
 use borrow.Author.Needs.{needs}
 use Rattle.simulator.proofs.StartLaws.{free-word, row-most, row-shift, power-most, power-shift, past-word}
@@ -15,13 +14,13 @@ shl-row c = search needs
 shl-divisor : tie.Need-shl-divisor
 shl-divisor c =
     let j = c .before .args .j in
-    let h : j < 6 = c .if1 .left in
+    let h = c .if1 .left in
     rw (row-shift j h) (omega (arith, row-most j h))
 
 add-divisor : tie.Need-add-divisor
 add-divisor c =
     let j = c .before .args .j in
-    let h : j < 6 = c .if1 .left in
+    let h = c .if1 .left in
     rw (row-shift j h, power-shift j h) (search (needs, power-most j h))
 
 div-result : tie.Need-div-result
@@ -30,7 +29,7 @@ div-result c = search needs
 returns-2 : tie.Need-returns-2
 returns-2 c =
     let j = c .before .args .j in
-    let h : j < 6 = c .if1 .left in
+    let h = c .if1 .left in
     rw (row-shift j h, power-shift j h) (free-word j h)
 
 pub pattern-spec : {M : Type 1} → statement M

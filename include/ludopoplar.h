@@ -96,7 +96,8 @@ uint64_t ludo_step(const uint16_t *net, size_t net_len, const uint8_t *cycle, si
 /* Runs a trace: lines of I bytes, '0' or '1', each ended by LF; it may be empty. Does what ludo_step does for
    each line, and writes one byte a line into `verdicts`, 1 rejected or 0 accepted. `values` holds the words of
    the last cycle, or stays as it was where the trace is empty; its M + 1 words must be lent even then.
-   `*verdict` is 0, accepted, where the last cycle was accepted or there was none; else 1, rejected. */
+   `*verdict` is 1, rejected, where any cycle of this trace was rejected; else, and where the trace is empty, 0,
+   accepted. */
 uint64_t ludo_run(const uint16_t *net, size_t net_len, const uint8_t *trace, size_t trace_len, uint64_t *latches, size_t latches_len,
                   uint64_t *values, size_t values_len, uint8_t *verdicts, size_t verdicts_len, uint32_t *cycles, uint32_t *rejected, uint64_t *verdict);
 

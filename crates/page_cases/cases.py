@@ -1,6 +1,6 @@
 #!/usr/bin/env python3
 """Writes stdin and stdout of the program page_cases beside this file: inputs of the two programs, each with the page
-that document 01 asks for. The pages are written here by hand, case by case; nothing is computed by the programs.
+that documents 01 and 02 ask for. The pages are written here by hand, case by case; nothing is computed by the programs.
 
 A case in stdin is a line `LENGTH<tab>LABEL` and then that many bytes; a label starts with `m` for the monitor's page
 and `a` for AIGER's. In stdout it is the label's line and then the page."""
@@ -47,8 +47,8 @@ ONE = ["V a", "E a a t 1 0"]
 LATE = ["S p", "S q", "V a", "V b", "V c", "E a b - p q", "E b c t 1 1"]
 
 # ---- document 01's examples
-monitor("graph G", lines(*G, "T", "110", "111", "010"), "R 1", "sum 3 1 accepted")
-monitor("17 gates", lines(*G2, "T", "110", "011", "001"), "R 1", "R 2", "sum 3 2 accepted")
+monitor("graph G", lines(*G, "T", "110", "111", "010"), "R 1", "sum 3 1 rejected")
+monitor("17 gates", lines(*G2, "T", "110", "011", "001"), "R 1", "R 2", "sum 3 2 rejected")
 monitor("constant, rejected", lines(*K, "T", "10"), "R 1", "sum 1 1 rejected")
 monitor("constant, accepted", lines(*K, "T", "11"), "sum 1 0 accepted")
 monitor("graph G without init", lines(*G, "T", "010"), "sum 1 0 accepted")
@@ -57,15 +57,18 @@ monitor("equals group to the left", lines("S p", "S q", "S r", "V a", "E a a t p
 refused("two bits are no formula", lines("V a", "E a a t 10 1"), 7, 2)
 
 # ---- verdicts
+monitor("no cycle rejected", lines(*G, "T", "111", "010"), "sum 2 0 accepted")
+monitor("the one cycle rejected", lines(*G, "T", "110"), "R 1", "sum 1 1 rejected")
+monitor("rejected in the middle", lines(*G, "T", "111", "110", "010"), "R 2", "sum 3 1 rejected")
 monitor("rejected at the end", lines(*G, "T", "000", "110"), "R 2", "sum 2 1 rejected")
 monitor("several rejected", lines(*G, "T", "110", "110", "111", "110", "100", "110"), "R 1", "R 2", "R 4", "R 6", "sum 6 4 rejected")
 monitor("consequent false where the antecedent is", lines(*G, "T", "100"), "sum 1 0 accepted")
 monitor("every cycle after the first init", lines(*ONE, "T", "0", "1", "0", "0"), "R 2", "R 3", "R 4", "sum 4 3 rejected")
 monitor("false consequent shows on the terminal edge", lines(*LATE, "T", "110", "000"), "R 2", "sum 2 1 rejected")
-monitor("no path is left after the terminal edge", lines(*LATE, "T", "110", "000", "000"), "R 2", "sum 3 1 accepted")
+monitor("no path is left after the terminal edge", lines(*LATE, "T", "110", "000", "000"), "R 2", "sum 3 1 rejected")
 monitor("restart by init in mid-trace", lines(*LATE, "T", "110", "100"), "sum 2 0 accepted")
 monitor("restart and a new path", lines(*LATE, "T", "110", "110", "000"), "R 3", "sum 3 1 rejected")
-monitor("a later false antecedent ends a condemned path", lines(*G2, "T", "110", "001", "011"), "R 1", "sum 3 1 accepted")
+monitor("a later false antecedent ends a condemned path", lines(*G2, "T", "110", "001", "011"), "R 1", "sum 3 1 rejected")
 monitor("no terminal edge", lines("V a", "E a a - 1 0", "T", "1", "0"), "sum 2 0 accepted")
 monitor("no edge", lines("V a", "T", "1", "0"), "sum 2 0 accepted")
 monitor("no signal", lines(*ONE, "T", "1", "0"), "R 1", "R 2", "sum 2 2 rejected")

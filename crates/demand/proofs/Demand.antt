@@ -1,6 +1,6 @@
--- Demand 3: on the monitor of a graph, whatever is called after start, tally and verdict bytes are what the paths say. Assumes nothing.
+-- Demand 3: on the monitor of a graph, whatever is called after start, tally, verdict bytes and verdicts are what the paths say. Assumes nothing.
 use Prim.Native.Nat.{ℕ, zero, suc, _+_, _-_, _*_, _<_, _≤_}
-use mathlib.Core.Path.{_≡_, refl, ap, ap₂, sym, _∙_}
+use mathlib.Core.Path.{_≡_, refl, ap, ap₂, subst, sym, _∙_}
 use mathlib.Core.Bool.{Bool, true, false, cond}
 use mathlib.Core.List.{List, [], _∷_, _++_, map, append-nil}
 use native.Mathlib.Omega.{arith}
@@ -32,16 +32,20 @@ use Rattle.trace.specs.Traces.{cyclesOf}
 use Rattle.trace.specs.Claims.{Cycles}
 use Rattle.calls.specs.Refusals.{startCheck, stepCheck, runCheck}
 use Rattle.simulator.specs.declared.outcome.StartOutcome.the-variants.{Ready}
+use Rattle.simulator.specs.declared.outcome.Verdict.{Verdict}
+use Rattle.simulator.specs.declared.outcome.Verdict.the-variants.{Accepted}
+use Rattle.simulator.specs.declared.outcome.RunOutcome.the-variants.{Done, Refused}
 use Rattle.simulator.specs.Start.{startBit, startWords, startAs, startOf}
 use Rattle.simulator.specs.Step.{stepAs, stepOf}
-use Rattle.simulator.specs.Run.{running, runCycles, ranTo, runAs, runOf}
+use Rattle.simulator.specs.Run.{verdictOf, running, runCycles, ranTo, runAs, runOf}
 use Rattle.trace.proofs.TraceLaws.{cycle-length}
 use Rattle.trace.proofs.LineLaws.{lines-are-cycles}
 use Rattle.calls.proofs.RefusalLaws.{step-passed, run-passed}
 use Rattle.simulator.proofs.StartLaws.{length-starts, start-at}
-use Rattle.demand.specs.Calls.{Call, stepCall, runCall, Kept, Called, called, stepGives, runGives}
-use Rattle.demand.specs.Demand.{BytesRight, Counted, keptBy, Demand3}
+use Rattle.demand.specs.Calls.{Call, stepCall, runCall, Kept, Answer, stepped, ran, Called, called, stepGives, runGives}
+use Rattle.demand.specs.Demand.{BytesRight, VerdictOfPaths, VerdictRight, Counted, keptBy, Demand3}
 use Rattle.demand.proofs.Held.{Whole, Right, verdicts-length, one-more, many}
+use Rattle.demand.proofs.Verdicts.{verdict-of-paths}
 
 -- no token anywhere
 fresh-at : (es : List Edge) (j : ℕ) → getD (flatTokens (fresh es)) j false ≡ false
@@ -54,6 +58,12 @@ whole : (n : ℕ) (cs : List Cycle) → Cycles n cs → Whole n cs
 unfolding Cycles
 whole n [] h = tt
 whole n (c ∷ cs) h = (cycle-length n c (h .0), whole n cs (h .1))
+
+-- the verdict in an answer
+unfoldable verdictIn : Answer → Verdict
+verdictIn (ran (Done v)) = v
+verdictIn (ran (Refused cause)) = Accepted
+verdictIn (stepped outcome) = Accepted
 
 module _ (g : Graph) (fits : Fits g) (surplus : List ℕ) where
   abbrev K : ℕ
@@ -131,30 +141,33 @@ module _ (g : Graph) (fits : Fits g) (surplus : List ℕ) where
   record After (seen : List Cycle) (x : Call) (d : Called) : Type 0 where
     kept : Right g fits surplus (seen ++ d .cycles) (d .kept .latches) (d .kept .tally)
     bytes : BytesRight g seen x d
+    verdict : VerdictRight g seen x d
 
   module _ (seen : List Cycle) (k : Kept) (r : Right g fits surplus seen (k .latches) (k .tally)) where
     step-after : (cycle values : List ℕ) → After seen (stepCall cycle values) (called net k (stepCall cycle values))
-    unfolding called stepOf stepAs stepGives BytesRight
+    unfolding called stepOf stepAs stepGives BytesRight VerdictRight
     step-after cycle values = by (stepCheck net cycle (length (k .latches)) (length values) (k .tally)) refl
       where
         by : (c : Checked) → stepCheck net cycle (length (k .latches)) (length values) (k .tally) ≡ c
             → After seen (stepCall cycle values) (record {
               kept = record { latches = stepAs c net cycle (k .latches) values (k .tally) .latches; tally = stepAs c net cycle (k .latches) values (k .tally) .answer .tally };
+              answer = stepped (stepAs c net cycle (k .latches) values (k .tally) .answer .outcome);
               cycles = stepGives (stepAs c net cycle (k .latches) values (k .tally) .answer .outcome) cycle;
               verdicts = [];
             })
         by Passed e =
             let p = step-passed net cycle (length (k .latches)) (length values) (k .tally) _ refl e in
-            record { kept = one-more g fits surplus seen cycle (k .latches) (k .tally) (cycle-length (inputCount net) cycle (p .bits)) r; bytes = tt }
-        by (Failed cause) e = record { kept = rw append-nil r; bytes = tt }
+            record { kept = one-more g fits surplus seen cycle (k .latches) (k .tally) (cycle-length (inputCount net) cycle (p .bits)) r; bytes = tt; verdict = tt }
+        by (Failed cause) e = record { kept = rw append-nil r; bytes = tt; verdict = tt }
 
     run-after : (trace values bytes : List ℕ) → After seen (runCall trace values bytes) (called net k (runCall trace values bytes))
-    unfolding called runOf runAs runGives ranTo BytesRight
+    unfolding called runOf runAs runGives ranTo BytesRight VerdictRight verdictIn
     run-after trace values bytes = by (runCheck net trace (length (k .latches)) (length values) (length bytes) (k .tally)) refl
       where
         by : (c : Checked) → runCheck net trace (length (k .latches)) (length values) (length bytes) (k .tally) ≡ c
             → After seen (runCall trace values bytes) (record {
               kept = record { latches = runAs c net trace (k .latches) values bytes (k .tally) .latches; tally = runAs c net trace (k .latches) values bytes (k .tally) .answer .tally };
+              answer = ran (runAs c net trace (k .latches) values bytes (k .tally) .answer .outcome);
               cycles = runGives (runAs c net trace (k .latches) values bytes (k .tally) .answer .outcome) (inputCount net) trace;
               verdicts = runAs c net trace (k .latches) values bytes (k .tally) .verdicts;
             })
@@ -166,8 +179,9 @@ module _ (g : Graph) (fits : Fits g) (surplus : List ℕ) where
             record {
               kept = m .0;
               bytes = take-at (R .bytes) (drop (length (R .bytes)) bytes) (length cs) (ap length (m .1) ∙ verdicts-length g seen cs) ∙ m .1;
+              verdict = λ v o. subst (VerdictOfPaths g seen cs) (sym (ap verdictOf (m .1)) ∙ ap verdictIn o) (verdict-of-paths g seen cs);
             }
-        by (Failed cause) e = record { kept = rw append-nil r; bytes = refl }
+        by (Failed cause) e = record { kept = rw append-nil r; bytes = refl; verdict = λ v o. let z : _≡_ {A = ℕ} 0 1 = cc in absurd (omega arith) }
 
   call-after : (x : Call) (seen : List Cycle) (k : Kept) → Right g fits surplus seen (k .latches) (k .tally) → After seen x (called net k x)
   call-after (stepCall cycle values) seen k r = step-after seen k r cycle values
@@ -178,7 +192,7 @@ module _ (g : Graph) (fits : Fits g) (surplus : List ℕ) where
   calls-right [] seen k r = (r .cycles-are, r .rejected-are)
   calls-right (x ∷ xs) seen k r =
       let a = call-after x seen k r in
-      (a .bytes, calls-right xs (seen ++ called net k x .cycles) (called net k x .kept) (a .kept))
+      (a .bytes, a .verdict, calls-right xs (seen ++ called net k x .cycles) (called net k x .kept) (a .kept))
 
   counts : (latches : List ℕ) (t : Tally) → startOf net latches t .answer .outcome ≡ Ready → (xs : List Call) → Counted g net [] (keptBy (startOf net latches t)) xs
   unfolding startOf startAs

@@ -18,10 +18,12 @@ use Rattle.calls.specs.declared.tally.Tally.{Tally}
 use Rattle.calls.specs.Tallies.{isRejected, counted, hasRoom}
 use Rattle.trace.specs.Traces.{isBit, fitsLine, faultFrom, faultOf, lineCount, cyclesFrom, cyclesOf}
 use Rattle.calls.specs.Refusals.{isShort, hasLatches, hasValues, startCheck, runCheck}
+use Rattle.simulator.specs.declared.outcome.Verdict.the-variants.{Accepted, Rejected}
+use Rattle.simulator.specs.declared.outcome.RunOutcome.the-variants.{Done}
 use Rattle.simulator.specs.Start.{startBit, startWords, startAs, startOf}
 use Rattle.simulator.specs.Step.{cycleWords, outputWord, latchesAfter, valuesAfter}
-use Rattle.simulator.specs.Run.{verdictByte, runCycle, runCycles, ranTo, runAs, runOf}
-use Rattle.demand.specs.Calls.{runCall, Kept, called, runGives}
+use Rattle.simulator.specs.Run.{verdictByte, verdictOf, runCycle, runCycles, ranTo, runAs, runOf}
+use Rattle.demand.specs.Calls.{runCall, Kept, ran, called, runGives}
 use Rattle.demand.specs.Demand.{keptBy, Demand3}
 use Rattle.demand.proofs.Demand.{demand3}
 
@@ -83,6 +85,23 @@ ran-bytes = refl
 ran-tally : called numbers begun (runCall trace values (9 ∷ 9 ∷ 9 ∷ 9 ∷ [])) .kept .tally ≡ tally 3 1
 unfolding called runGives runOf runAs ranTo runCycles runCycle verdictByte runCheck isShort faultOf faultFrom fitsLine lineCount cyclesOf cyclesFrom isBit hasRoom counted isRejected startOf startAs startWords startBit startCheck hasLatches hasValues isNetlist headerOk outputOk latchOk gateOk isWithin isFree freeCount each lane numberOf wordOf literalOf variableOf isInverted outputWord latchesAfter valuesAfter cycleWords outputOf nextOf nextsOf valuesOf front Rattle.netlist.specs.Meaning.gatesOf gateOf bitOf litOf signed
 ran-tally = refl
+
+-- the last cycle is accepted, the run is not
+ran-verdict : called numbers begun (runCall trace values (9 ∷ 9 ∷ 9 ∷ 9 ∷ [])) .answer ≡ ran (Done Rejected)
+unfolding called runGives runOf runAs ranTo runCycles runCycle verdictByte verdictOf runCheck isShort faultOf faultFrom fitsLine lineCount cyclesOf cyclesFrom isBit hasRoom counted isRejected startOf startAs startWords startBit startCheck hasLatches hasValues isNetlist headerOk outputOk latchOk gateOk isWithin isFree freeCount each lane numberOf wordOf literalOf variableOf isInverted outputWord latchesAfter valuesAfter cycleWords outputOf nextOf nextsOf valuesOf front Rattle.netlist.specs.Meaning.gatesOf gateOf bitOf litOf signed
+ran-verdict = refl
+
+-- two runs on one tally, first 110, then 111: each has the verdict of its own cycles
+abbrev after-110 : Kept
+after-110 = called numbers begun (runCall (49 ∷ 49 ∷ 48 ∷ 10 ∷ []) values (9 ∷ [])) .kept
+
+first-verdict : called numbers begun (runCall (49 ∷ 49 ∷ 48 ∷ 10 ∷ []) values (9 ∷ [])) .answer ≡ ran (Done Rejected)
+unfolding called runGives runOf runAs ranTo runCycles runCycle verdictByte verdictOf runCheck isShort faultOf faultFrom fitsLine lineCount cyclesOf cyclesFrom isBit hasRoom counted isRejected startOf startAs startWords startBit startCheck hasLatches hasValues isNetlist headerOk outputOk latchOk gateOk isWithin isFree freeCount each lane numberOf wordOf literalOf variableOf isInverted outputWord latchesAfter valuesAfter cycleWords outputOf nextOf nextsOf valuesOf front Rattle.netlist.specs.Meaning.gatesOf gateOf bitOf litOf signed
+first-verdict = refl
+
+second-verdict : called numbers after-110 (runCall (49 ∷ 49 ∷ 49 ∷ 10 ∷ []) values (9 ∷ [])) .answer ≡ ran (Done Accepted)
+unfolding called runGives runOf runAs ranTo runCycles runCycle verdictByte verdictOf runCheck isShort faultOf faultFrom fitsLine lineCount cyclesOf cyclesFrom isBit hasRoom counted isRejected startOf startAs startWords startBit startCheck hasLatches hasValues isNetlist headerOk outputOk latchOk gateOk isWithin isFree freeCount each lane numberOf wordOf literalOf variableOf isInverted outputWord latchesAfter valuesAfter cycleWords outputOf nextOf nextsOf valuesOf front Rattle.netlist.specs.Meaning.gatesOf gateOf bitOf litOf signed
+second-verdict = refl
 
 -- a run with a verdict buffer that is too short is refused: it gives no cycle, and the tally stays
 refused-run : called numbers begun (runCall trace values (9 ∷ 9 ∷ [])) .cycles ≡ []

@@ -1,5 +1,6 @@
 -- The root of the laws.
 pub mod Held
+pub mod Verdicts
 pub mod Demand
 pub mod Forms
 mod Examples

@@ -34,9 +34,16 @@ unfoldable pub runGives : RunOutcome → ℕ → List ℕ → List Cycle
 runGives (run.Done verdict) inputs trace = cyclesOf inputs trace
 runGives (run.Refused cause) inputs trace = []
 
--- a call on what is kept: what is kept then, the cycles that it gave, and the verdict buffer as it left it
+-- what a call answered
+pub data Answer : Type 0 where
+  stepped : StepOutcome → Answer
+  ran : RunOutcome → Answer
+
+-- a call on what is kept: what is kept then, its answer, the cycles that it gave, and the verdict buffer as
+-- it left it
 pub record Called : Type 0 where
   pub kept : Kept
+  pub answer : Answer
   pub cycles : List Cycle
   pub verdicts : List ℕ
 
@@ -45,6 +52,7 @@ called net k (stepCall cycle values) =
     let e = stepOf net cycle (k .latches) values (k .tally) in
     record {
       kept = record { latches = e .latches; tally = e .answer .tally };
+      answer = stepped (e .answer .outcome);
       cycles = stepGives (e .answer .outcome) cycle;
       verdicts = [];
     }
@@ -52,6 +60,7 @@ called net k (runCall trace values verdicts) =
     let e = runOf net trace (k .latches) values verdicts (k .tally) in
     record {
       kept = record { latches = e .latches; tally = e .answer .tally };
+      answer = ran (e .answer .outcome);
       cycles = runGives (e .answer .outcome) (inputCount net) trace;
       verdicts = e .verdicts;
     }

@@ -6,18 +6,42 @@ use Prim.Native.Nat.{ℕ, _+_, _*_, _≤_}
 use lib.ListN.{length, take}
 use Rattle.netlist.specs.Valid.{isNetlist}
 use Rattle.assertion.specs.Graph.{Graph, Cycle}
-use Rattle.assertion.specs.Paths.{verdicts, countRejected, PathsMean}
+use Rattle.assertion.specs.Paths.{Rejected, verdicts, countRejected, PathsMean}
 use Rattle.calls.specs.declared.tally.Tally.{Tally}
 use Rattle.simulator.specs.declared.outcome.StartOutcome.the-variants.{Ready}
+use Rattle.simulator.specs.declared.outcome.Verdict.{Verdict}
+use Rattle.simulator.specs.declared.outcome.Verdict.the-variants as verdict
+use Rattle.simulator.specs.declared.outcome.RunOutcome.the-variants.{Done}
 use Rattle.simulator.specs.Start.{StartEnd, startOf}
+use Rattle.simulator.specs.Run.{verdictOf}
 use Rattle.circuit.specs.Count.{gateFormula, allOperators}
-use Rattle.demand.specs.Calls.{Call, stepCall, runCall, Kept, Called, called}
+use Rattle.demand.specs.Calls.{Call, stepCall, runCall, Kept, ran, Called, called}
 
 -- each accepted run has written 1 for exactly those of its cycles that are rejected, 0 for its others,
 -- where the cycles seen came before it; a refused run has no cycle
 unfoldable pub BytesRight : Graph → List Cycle → Call → Called → Type 0
 BytesRight g seen (stepCall cycle values) d = Unit {0}
 BytesRight g seen (runCall trace values bytes) d = take (length (d .cycles)) (d .verdicts) ≡ verdicts g seen (d .cycles)
+
+-- document 02, No. 2: "a run's verdict is `rejected` exactly when any cycle of that run was": some of these
+-- cycles, before which the cycles seen came, is condemned by some setting and some rejecting path
+pub record SomeRejected (g : Graph) (seen cycles : List Cycle) : Type 0 where
+  pub before : List Cycle
+  pub cycle : Cycle
+  pub after : List Cycle
+  pub whole : cycles ≡ before ++ (cycle ∷ after)
+  pub rejected : Rejected g (seen ++ (before ++ (cycle ∷ [])))
+
+-- v is the verdict of a run with these cycles: that of the bytes, and rejected exactly if one of them is
+pub record VerdictOfPaths (g : Graph) (seen cycles : List Cycle) (v : Verdict) : Type 0 where
+  pub of-bytes : v ≡ verdictOf (verdicts g seen cycles)
+  pub some : v ≡ verdict.Rejected → SomeRejected g seen cycles
+  pub any : SomeRejected g seen cycles → v ≡ verdict.Rejected
+
+-- each accepted run has answered it; a step has no verdict
+unfoldable pub VerdictRight : Graph → List Cycle → Call → Called → Type 0
+VerdictRight g seen (stepCall cycle values) d = Unit {0}
+VerdictRight g seen (runCall trace values bytes) d = (v : Verdict) → d .answer ≡ ran (Done v) → VerdictOfPaths g seen (d .cycles) v
 
 -- after a list of calls, before which the cycles seen were given: the tally's cycles are the cycles of
 -- the accepted calls, in call order, and its rejected are those of them that some setting and some
@@ -26,7 +50,7 @@ unfoldable pub Counted : Graph → List ℕ → List Cycle → Kept → List Cal
 Counted g net seen k [] = (k .tally .cycles ≡ length seen) × (k .tally .rejected ≡ countRejected g seen)
 Counted g net seen k (x ∷ xs) =
     let d = called net k x in
-    BytesRight g seen x d × Counted g net (seen ++ d .cycles) (d .kept) xs
+    BytesRight g seen x d × VerdictRight g seen x d × Counted g net (seen ++ d .cycles) (d .kept) xs
 
 -- what an accepted start leaves
 abbrev pub keptBy : StartEnd → Kept

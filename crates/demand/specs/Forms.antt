@@ -12,7 +12,7 @@ use Rattle.simulator.specs.declared.outcome.RunOutcome.{RunOutcome}
 use Rattle.simulator.specs.Start.{startEnd, startOf}
 use Rattle.simulator.specs.Step.{stepEnd, stepOf}
 use Rattle.simulator.specs.Run.{runEnd, runOf}
-use Rattle.demand.specs.Calls.{stepCall, runCall, Kept, Called, called, stepGives, runGives}
+use Rattle.demand.specs.Calls.{stepCall, runCall, Kept, stepped, ran, Called, called, stepGives, runGives}
 use Rattle.demand.specs.Demand.{keptBy}
 
 abbrev pub kept : List ℕ → Tally → Kept
@@ -25,8 +25,8 @@ pub record EitherForm : Type 0 where
       → keptBy (startOf net latches t) ≡ kept l′ t′
   pub steps : (net cycle latches values l′ v′ : List ℕ) (t t′ : Tally) (r : StepOutcome)
       → stepEnd (record { outcome = r; tally = t′ }) l′ v′ ≡ stepOf net cycle latches values t
-      → called net (kept latches t) (stepCall cycle values) ≡ record { kept = kept l′ t′; cycles = stepGives r cycle; verdicts = [] }
+      → called net (kept latches t) (stepCall cycle values) ≡ record { kept = kept l′ t′; answer = stepped r; cycles = stepGives r cycle; verdicts = [] }
   pub runs : (net trace latches values bytes l′ v′ b′ : List ℕ) (t t′ : Tally) (r : RunOutcome)
       → runEnd (record { outcome = r; tally = t′ }) l′ v′ b′ ≡ runOf net trace latches values bytes t
       → called net (kept latches t) (runCall trace values bytes)
-      ≡ record { kept = kept l′ t′; cycles = runGives r (inputCount net) trace; verdicts = b′ }
+      ≡ record { kept = kept l′ t′; answer = ran r; cycles = runGives r (inputCount net) trace; verdicts = b′ }

@@ -47,10 +47,14 @@ printed program rows = record { found = map (λ r. program (r .input)) rows; due
 -- ---- the monitor program
 abbrev monitorRows : List Row
 monitorRows =
-    -- graph G on 110, 111, 010
-    row "S\tp\nS\tq\nV\ta\nV\tb\nE\ta\tb\tt\tp\tq\nT\n110\n111\n010\n" "R\t1\nsum\t3\t1\taccepted\n"
+    -- graph G on 110, 111, 010: rejected since one cycle is, as document 02 has it in No. 2
+    row "S\tp\nS\tq\nV\ta\nV\tb\nE\ta\tb\tt\tp\tq\nT\n110\n111\n010\n" "R\t1\nsum\t3\t1\trejected\n"
+    -- G on 111, 010, on 110, and without a trace
+    ∷ row "S\tp\nS\tq\nV\ta\nV\tb\nE\ta\tb\tt\tp\tq\nT\n111\n010\n" "sum\t2\t0\taccepted\n"
+    ∷ row "S\tp\nS\tq\nV\ta\nV\tb\nE\ta\tb\tt\tp\tq\nT\n110\n" "R\t1\nsum\t1\t1\trejected\n"
+    ∷ row "S\tp\nS\tq\nV\ta\nV\tb\nE\ta\tb\tt\tp\tq\n" "sum\t0\t0\taccepted\n"
     -- G with `E b b t p 1` on 110, 011, 001: 1 and 2 only
-    ∷ row "S\tp\nS\tq\nV\ta\nV\tb\nE\ta\tb\tt\tp\tq\nE\tb\tb\tt\tp\t1\nT\n110\n011\n001\n" "R\t1\nR\t2\nsum\t3\t2\taccepted\n"
+    ∷ row "S\tp\nS\tq\nV\ta\nV\tb\nE\ta\tb\tt\tp\tq\nE\tb\tb\tt\tp\t1\nT\n110\n011\n001\n" "R\t1\nR\t2\nsum\t3\t2\trejected\n"
     -- a constant, tried both ways: `k`/`p` on 10 and on 11
     ∷ row "S\tp\nK\tk\nV\ta\nE\ta\ta\tt\tk\tp\nT\n10\n" "R\t1\nsum\t1\t1\trejected\n"
     ∷ row "S\tp\nK\tk\nV\ta\nE\ta\ta\tt\tk\tp\nT\n11\n" "sum\t1\t0\taccepted\n"

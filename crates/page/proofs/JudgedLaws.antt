@@ -8,10 +8,8 @@ use native.Mathlib.Nat.{mul-le-mul-left}
 use native.Mathlib.Omega.{arith}
 use borrow.Author.Tests.{le-leb}
 use lib.Dec.{eqb}
-use lib.ListN.{length, take, drop, replicate, length-append, length-map, length-replicate}
-use lib.Seq.{take-at}
+use lib.ListN.{length, take, drop, replicate, length-append, length-replicate}
 use Rattle.netlist.specs.Layout.{maximum, inputCount, latchCount}
-use Rattle.netlist.specs.Meaning.{words}
 use Rattle.netlist.specs.Valid.{isNetlist}
 use Rattle.netlist.proofs.ValidLaws.{Valid, valid}
 use Rattle.assertion.specs.Graph.{Bytes, Graph}
@@ -26,6 +24,7 @@ use Rattle.calls.specs.declared.refusal.Cause.the-variants.{WrongLine}
 use Rattle.calls.specs.declared.refusal.Checked.{Checked}
 use Rattle.calls.specs.declared.refusal.Checked.the-variants.{Passed, Failed}
 use Rattle.simulator.specs.declared.outcome.StartOutcome.the-variants.{Ready}
+use Rattle.simulator.specs.declared.outcome.Verdict.{Verdict}
 use Rattle.simulator.specs.declared.outcome.RunOutcome.{RunOutcome}
 use Rattle.simulator.specs.declared.outcome.RunOutcome.the-variants.{Done}
 use Rattle.calls.specs.declared.tally.Tally.{Tally}
@@ -33,13 +32,13 @@ use Rattle.calls.specs.Tallies.{cleared}
 use Rattle.trace.specs.Traces.{faultOf, lineCount, cyclesOf}
 use Rattle.calls.specs.Refusals.{refusalOf, isShort, hasLatches, hasValues, startCheck, runCheck}
 use Rattle.simulator.specs.Start.{startWords, startAs, startOf}
-use Rattle.simulator.specs.Run.{verdictByte, verdictOf, RunEnd, runAs, runOf}
+use Rattle.simulator.specs.Run.{verdictOf, RunEnd, runAs, runOf}
 use Rattle.calls.proofs.TallyLaws.{room}
 use Rattle.trace.proofs.TraceLaws.{lines-fit}
 use Rattle.simulator.proofs.StartLaws.{length-starts}
-use Rattle.simulator.proofs.RunMeaning.{outputsOf, bytesOf, length-outputs, run-verdicts, run-outcome}
-use Rattle.demand.specs.Calls.{runCall, called, runGives}
-use Rattle.demand.specs.Demand.{BytesRight, Counted, keptBy, Demand3}
+use Rattle.simulator.proofs.RunMeaning.{bytesOf, run-outcome}
+use Rattle.demand.specs.Calls.{runCall, ran, called, runGives}
+use Rattle.demand.specs.Demand.{BytesRight, VerdictRight, Counted, keptBy, Demand3}
 use Rattle.page_text.specs.Lines.{refusedLine, report}
 use Rattle.page.specs.Pages.{graphPage, inputsOf, judgement, tracePage}
 use Rattle.page.specs.Private.Machine.{outcomePage, machineEnd, machinePage}
@@ -130,10 +129,10 @@ module _ (net trace : List ℕ) (netlist : isNetlist net ≡ true) (short : leng
     passed : runCheck net trace (length latches) (length values) (length bytes) (startOf net lent cleared .answer .tally) ≡ Passed
     passed = run-checked ∙ ap (λ (b : Bool). cond b Passed (Failed (WrongLine fault))) right
 
-    abbrev written : List ℕ
-    written = bytesOf net cycles (take (latchCount net) latches)
+    abbrev verdict : Verdict
+    verdict = verdictOf (bytesOf net cycles (take (latchCount net) latches))
 
-    outcome : ending .answer .outcome ≡ Done (verdictOf written)
+    outcome : ending .answer .outcome ≡ Done verdict
     outcome = run-outcome net trace latches values bytes (startOf net lent cleared .answer .tally) passed
 
     given : runGives (ending .answer .outcome) (inputCount net) trace ≡ cycles
@@ -150,31 +149,23 @@ module _ (net trace : List ℕ) (netlist : isNetlist net ≡ true) (short : leng
 
     cycles-right : ending .answer .tally .cycles ≡ length cycles
     unfolding Counted called
-    cycles-right = counted .1 .0 ∙ ap length given
+    cycles-right = counted .2 .0 ∙ ap length given
 
     rejected-right : ending .answer .tally .rejected ≡ countRejected g cycles
     unfolding Counted called
-    rejected-right = counted .1 .1 ∙ ap (countRejected g) given
+    rejected-right = counted .2 .1 ∙ ap (countRejected g) given
 
-    written-length : length written ≡ length cycles
-    written-length =
-        let outputs = outputsOf words net cycles (take (latchCount net) latches) in
-        length-map outputs verdictByte ∙ length-outputs words net cycles (take (latchCount net) latches)
-
-    written-right : written ≡ verdicts g [] cycles
-    written-right =
-        let surplus = drop (length cycles) bytes in
-        sym (take-at written surplus (length cycles) written-length)
-        ∙ ap (take (length cycles)) (sym (run-verdicts net trace latches values bytes (startOf net lent cleared .answer .tally) passed))
-        ∙ bytes-right
+    verdict-right : verdict ≡ verdictOf (verdicts g [] cycles)
+    unfolding Counted VerdictRight called
+    verdict-right = counted .1 verdict (ap ran outcome) .of-bytes ∙ ap (λ (cs : List (List ℕ)). verdictOf (verdicts g [] cs)) given
 
     page-right : outcomePage (ending .answer .outcome) (ending .answer .tally) (ending .verdicts) ≡ judgement g cycles
     unfolding outcomePage judgement
     page-right =
         ap (λ (o : RunOutcome). outcomePage o (ending .answer .tally) (ending .verdicts)) outcome
-        ∙ ap (λ (n : ℕ). report (take n (ending .verdicts)) n (ending .answer .tally .rejected) (verdictOf written)) cycles-right
-        ∙ ap (λ (j : ℕ). report (take (length cycles) (ending .verdicts)) (length cycles) j (verdictOf written)) rejected-right
-        ∙ ap₂ (λ (b w : List ℕ). report b (length cycles) (countRejected g cycles) (verdictOf w)) bytes-right written-right
+        ∙ ap (λ (n : ℕ). report (take n (ending .verdicts)) n (ending .answer .tally .rejected) verdict) cycles-right
+        ∙ ap (λ (j : ℕ). report (take (length cycles) (ending .verdicts)) (length cycles) j verdict) rejected-right
+        ∙ ap₂ (λ (b : List ℕ) (v : Verdict). report b (length cycles) (countRejected g cycles) v) bytes-right verdict-right
 
 -- the page of a run on the numbers that an accepted build left
 module _ (buffer : List ℕ) (enough : 8194 ≤ length buffer) (text trace : Bytes) (means : BuildMeans text buffer) (made : ℕ)

@@ -2,6 +2,7 @@
 mod PageLaws
 mod BuildLaws
 mod JudgedLaws
+mod SumLaws
 mod SizeLaws
 mod LengthLaws
 mod AnswerLaws

@@ -1,8 +1,9 @@
 -- The pages of the two programs. A refusal of what a page needs is the page's text; a page itself is refused only
 -- where it does not fit into the buffer. Which cycles are rejected is said by paths. Assumes nothing.
+use mathlib.Core.Path.{_≡_}
 use mathlib.Core.Bool.{cond}
 use mathlib.Core.List.{List, [], _++_}
-use Prim.Native.Nat.{ℕ, _+_}
+use Prim.Native.Nat.{ℕ, _+_, _≤_}
 use lib.Dec.{eqb, leb}
 use lib.ListN.{length, drop}
 use Rattle.text.specs.declared.Refusal.{Refusal}
@@ -15,11 +16,13 @@ use Rattle.builder.specs.Build.{variablesOf}
 use Rattle.builder.specs.declared.Cause.the-variants.{GraphText, TooManyVariables}
 use Rattle.aiger.specs.Format.{fileOf}
 use Rattle.trace.specs.Traces.{faultOf, cyclesOf}
+use Rattle.simulator.specs.declared.outcome.Verdict.{Verdict}
 use Rattle.simulator.specs.Run.{verdictOf}
+use Rattle.demand.specs.Demand.{VerdictOfPaths}
 use Rattle.calls.specs.Refusals as simulator
 use Rattle.calls.specs.declared.refusal.Cause.the-variants.{WrongLine}
 use Rattle.page_text.specs.Parts.{graphPart, tracePart}
-use Rattle.page_text.specs.Lines.{refusedLine, report}
+use Rattle.page_text.specs.Lines.{refusedLine, sumLine, report}
 use Rattle.page.specs.declared.Cause.{Cause}
 use Rattle.page.specs.declared.Cause.the-variants.{ShortBuffer}
 use Rattle.page.specs.declared.InputFault.{InputFault}
@@ -60,6 +63,20 @@ monitorText input =
     cond (leb (length input) 65536)
     (graphPage (graphOf (graphPart input)) (tracePage (tracePart input)))
     (refusedLine (inputRefusal TooLong))
+
+-- THE CLAIM on the last line of a page that is no refusal: it has the cycles, how many are rejected, and the verdict,
+-- which is rejected exactly if some setting and some rejecting path condemn one of the cycles
+pub record SumMeans (g : Graph) (cycles : List Bytes) (page : Bytes) : Type 0 where
+  pub before : Bytes
+  pub verdict : Verdict
+  pub last : page ≡ before ++ sumLine (length cycles) (countRejected g cycles) verdict
+  pub right : VerdictOfPaths g [] cycles verdict
+
+abbrev pub JudgementMeans : Bytes → Type 0
+JudgementMeans input =
+    (g : Graph) → length input ≤ 65536 → graphOf (graphPart input) ≡ accepted g → variablesOf g ≤ 4095
+    → faultOf (inputsOf g) (tracePart input) ≡ 0
+    → SumMeans g (cyclesOf (inputsOf g) (tracePart input)) (monitorText input)
 
 -- ---- the program that prints AIGER: its whole input is a graph text
 unfoldable pub aigerText : Bytes → Bytes

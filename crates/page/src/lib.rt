@@ -1,7 +1,7 @@
 // The pages of the two programs, as functions on slices: the monitor's judgement of a trace, and the AIGER file of
 // a graph. A refusal of what a page needs is the page's text; a page itself is refused only where the buffer is too
 // short for it. Knows nothing of where its bytes come from or go to. Exports that the monitor's page names exactly
-// the cycles that some setting and some rejecting path condemn.
+// the cycles that some setting and some rejecting path condemn, and says rejected exactly if there is one.
 use aiger::Written;
 use builder::Built;
 use calls::Tally;
@@ -21,7 +21,7 @@ ghost use Rattle.assertion.specs.Paths.{PathsMean};
 ghost use Rattle.graph.specs.Reading.{graphOf};
 ghost use Rattle.aiger.specs.Format.{fileOf};
 ghost use Rattle.page_text.specs.Lines.{refusedLine, report};
-ghost use Rattle.page.specs.Pages.{refusalOf, inputRefusal, graphPage, tracePage, pageEnd, pageOf, monitorText, aigerText};
+ghost use Rattle.page.specs.Pages.{refusalOf, inputRefusal, JudgementMeans, graphPage, tracePage, pageEnd, pageOf, monitorText, aigerText};
 ghost use Rattle.page.specs.Private.Machine.{outcomePage, machinePage};
 
 // The longest input of a program.
@@ -168,6 +168,7 @@ pub fn monitor_page(input: &[u8], out: &mut [u8]) -> Paged
     ensures { λ r. ⌜ pageEnd r (now (out .exit)) ≡ pageOf (monitorText (now (input .entry))) (now (out .entry)) ⌝ }
     ensures fits { λ _. ⌜ length (monitorText (now (input .entry))) ≤ 250991 ⌝ }
     ensures paths { λ _. ⌜ PathsMean ⌝ }
+    ensures verdict { λ _. ⌜ JudgementMeans (now (input .entry)) ⌝ }
 {
     if input.len() > MAX_INPUT {
         let fault = InputFault::TooLong;

@@ -1,15 +1,22 @@
--- Starts, computed. Assumes nothing.
+-- Starts, verdicts and runs, computed; 48 is `0`, 49 is `1`, 10 ends a line. Assumes nothing.
 use Prim.Native.Nat.{ℕ}
 use mathlib.Core.Path.{_≡_, refl}
-use mathlib.Core.List.{List, [], _∷_}
-use Rattle.netlist.specs.Literals.{literalOf}
+use mathlib.Core.List.{List, [], _∷_, map}
+use Rattle.netlist.specs.Literals.{literalOf, variableOf, isInverted}
 use Rattle.netlist.specs.Lanes.{lane, each, numberOf, wordOf}
+use Rattle.netlist.specs.Meaning.{signed, litOf, bitOf, gateOf, gatesOf, front, valuesOf, nextsOf, nextOf, outputOf}
 use Rattle.netlist.specs.Valid.{headerOk, isWithin, isFree, latchOk, freeCount, outputOk, gateOk, isNetlist}
 use Rattle.calls.specs.declared.refusal.Cause.the-variants.{NotNetlist, ShortBuffer}
 use Rattle.calls.specs.declared.tally.Tally.{Tally}
-use Rattle.calls.specs.Refusals.{hasLatches, startCheck}
+use Rattle.calls.specs.Tallies.{isRejected, counted, hasRoom}
+use Rattle.trace.specs.Traces.{isBit, fitsLine, faultFrom, faultOf, lineCount, cyclesFrom, cyclesOf}
+use Rattle.calls.specs.Refusals.{isShort, hasLatches, hasValues, startCheck, runCheck}
 use Rattle.simulator.specs.declared.outcome.StartOutcome.the-variants.{Ready, Refused}
+use Rattle.simulator.specs.declared.outcome.Verdict.the-variants.{Accepted, Rejected}
+use Rattle.simulator.specs.declared.outcome.RunOutcome.the-variants as run
 use Rattle.simulator.specs.Start.{startBit, startWords, startEnd, startAs, startOf}
+use Rattle.simulator.specs.Step.{cycleWords, outputWord, latchesAfter, valuesAfter}
+use Rattle.simulator.specs.Run.{verdictByte, verdictOf, runCycle, runCycles, runEnd, ranTo, runAs, runOf}
 
 -- one input and four latches, of which the last two are uninitialised, the others with resets 0 and 1
 abbrev numbers : List ℕ
@@ -51,3 +58,29 @@ starts-seven = refl
 starts-none : startOf (1 ∷ 1 ∷ 0 ∷ 1 ∷ 0 ∷ 2 ∷ []) (9 ∷ []) (tally 5 3) ≡ startEnd (record { outcome = Ready; tally = tally 0 0 }) (9 ∷ [])
 unfolding startOf startAs startWords startCheck hasLatches isNetlist headerOk outputOk latchOk gateOk isWithin isFree freeCount each literalOf
 starts-none = refl
+
+-- ---- verdicts
+verdicts : map verdictOf ([] ∷ (0 ∷ []) ∷ (1 ∷ []) ∷ (0 ∷ 0 ∷ 1 ∷ []) ∷ (1 ∷ 0 ∷ 0 ∷ []) ∷ (0 ∷ 1 ∷ 0 ∷ []) ∷ (1 ∷ 1 ∷ 1 ∷ []) ∷ (0 ∷ 0 ∷ 0 ∷ []) ∷ [])
+    ≡ Accepted ∷ Accepted ∷ Rejected ∷ Rejected ∷ Rejected ∷ Rejected ∷ Rejected ∷ Accepted ∷ []
+unfolding verdictOf
+verdicts = refl
+
+-- ---- runs on the netlist whose output is its one input, so that 0 is rejected and 1 accepted
+abbrev wire : List ℕ
+wire = 1 ∷ 1 ∷ 0 ∷ 1 ∷ 0 ∷ 2 ∷ []
+
+-- 1, 0, 1: the last cycle is accepted, the run is not; the surplus of each buffer stays
+runs-rejected : runOf wire (49 ∷ 10 ∷ 48 ∷ 10 ∷ 49 ∷ 10 ∷ []) (9 ∷ []) (9 ∷ 9 ∷ 9 ∷ []) (9 ∷ 9 ∷ 9 ∷ 9 ∷ []) (tally 5 3)
+    ≡ runEnd (record { outcome = run.Done Rejected; tally = tally 8 4 }) (9 ∷ []) (0 ∷ 18446744073709551615 ∷ 9 ∷ []) (0 ∷ 1 ∷ 0 ∷ 9 ∷ [])
+unfolding runOf runAs ranTo runCycles runCycle verdictByte verdictOf runCheck isShort faultOf faultFrom fitsLine lineCount cyclesOf cyclesFrom isBit hasRoom counted isRejected hasLatches hasValues isNetlist headerOk outputOk latchOk gateOk isWithin isFree freeCount each lane numberOf wordOf literalOf variableOf isInverted outputWord latchesAfter valuesAfter cycleWords outputOf nextOf nextsOf valuesOf front gatesOf gateOf bitOf litOf signed
+runs-rejected = refl
+
+-- the tally's past is no part of a verdict: 1 after it is accepted, and so is no cycle at all
+runs-accepted : runOf wire (49 ∷ 10 ∷ []) [] (9 ∷ 9 ∷ []) (9 ∷ []) (tally 8 4)
+    ≡ runEnd (record { outcome = run.Done Accepted; tally = tally 9 4 }) [] (0 ∷ 18446744073709551615 ∷ []) (0 ∷ [])
+unfolding runOf runAs ranTo runCycles runCycle verdictByte verdictOf runCheck isShort faultOf faultFrom fitsLine lineCount cyclesOf cyclesFrom isBit hasRoom counted isRejected hasLatches hasValues isNetlist headerOk outputOk latchOk gateOk isWithin isFree freeCount each lane numberOf wordOf literalOf variableOf isInverted outputWord latchesAfter valuesAfter cycleWords outputOf nextOf nextsOf valuesOf front gatesOf gateOf bitOf litOf signed
+runs-accepted = refl
+
+runs-none : runOf wire [] [] (9 ∷ 9 ∷ []) (1 ∷ []) (tally 9 4) ≡ runEnd (record { outcome = run.Done Accepted; tally = tally 9 4 }) [] (9 ∷ 9 ∷ []) (1 ∷ [])
+unfolding runOf runAs ranTo runCycles verdictOf runCheck isShort faultOf faultFrom lineCount cyclesOf cyclesFrom hasRoom hasLatches hasValues isNetlist headerOk outputOk latchOk gateOk isWithin isFree freeCount each literalOf
+runs-none = refl

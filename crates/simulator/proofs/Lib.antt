@@ -6,4 +6,5 @@ pub mod RunLaws
 pub mod RunTrace
 pub mod RunSteps
 pub mod RunMeaning
+pub mod VerdictLaws
 mod Examples

@@ -14,6 +14,8 @@ use Rattle.calls.specs.declared.refusal.Cause.the-variants.{TraceTooLong, Wrong
 use Rattle.calls.specs.declared.refusal.Checked.the-variants.{Passed}
 use Rattle.simulator.specs.declared.outcome.StepOutcome.{StepOutcome}
 use Rattle.simulator.specs.declared.outcome.StepOutcome.the-variants.{Output, Refused}
+use Rattle.simulator.specs.declared.outcome.Verdict.{Verdict}
+use Rattle.simulator.specs.declared.outcome.Verdict.the-variants.{Rejected}
 use Rattle.simulator.specs.declared.outcome.RunOutcome.the-variants as run
 use Rattle.calls.specs.declared.tally.Tally.{Tally}
 use Rattle.trace.specs.Traces.{faultOf, cyclesOf}
@@ -21,7 +23,7 @@ use Rattle.trace.specs.Claims.{FirstWrong, TraceMeans}
 use Rattle.calls.specs.Refusals.{startCheck, stepCheck, runCheck}
 use Rattle.simulator.specs.Start.{startOf}
 use Rattle.simulator.specs.Step.{StepEnd, stepOf}
-use Rattle.simulator.specs.Run.{Running, running, verdictByte, runEnd, ranTo, runOf}
+use Rattle.simulator.specs.Run.{Running, running, verdictByte, RunEnd, runEnd, ranTo, runOf}
 
 -- ---- start: what lane n of latch k's word is after a start that is not refused
 pub record LaneOfStart (n k : ℕ) (net : List ℕ) (word : ℕ) : Type 0 where
@@ -115,3 +117,17 @@ pub record StepsOfRun (net trace latches values verdicts : List ℕ) (t : Tally)
 abbrev pub RunIsSteps : List ℕ → List ℕ → List ℕ → List ℕ → List ℕ → Tally → Type 0
 RunIsSteps net trace latches values verdicts t =
     runCheck net trace (length latches) (length values) (length verdicts) t ≡ Passed → StepsOfRun net trace latches values verdicts t
+
+-- ---- run: document 02, No. 2: "a run's verdict is `rejected` exactly when any cycle of that run was"
+-- of a run that ended so after so many cycles
+pub record VerdictOfRun (cycles : ℕ) (end : RunEnd) : Type 0 where
+  pub verdict : Verdict
+  pub answered : end .answer .outcome ≡ run.Done verdict
+  -- it is rejected only if some cycle has the byte 1, and if any has it
+  pub some : verdict ≡ Rejected → (k : ℕ) × (k < cycles) × (getD (end .verdicts) k 0 ≡ 1)
+  pub any : (k : ℕ) → k < cycles → getD (end .verdicts) k 0 ≡ 1 → verdict ≡ Rejected
+
+abbrev pub VerdictMeans : List ℕ → List ℕ → List ℕ → List ℕ → List ℕ → Tally → Type 0
+VerdictMeans net trace latches values verdicts t =
+    runCheck net trace (length latches) (length values) (length verdicts) t ≡ Passed
+    → VerdictOfRun (length (cyclesOf (inputCount net) trace)) (runOf net trace latches values verdicts t)

@@ -2,9 +2,9 @@
 -- the value words hold the last cycle's values, or are untouched by an empty trace. Assumes nothing.
 use mathlib.Core.Bool.{cond}
 use mathlib.Core.List.{List, [], _∷_, _++_}
-use Prim.Native.Nat.{ℕ, _-_}
+use Prim.Native.Nat.{ℕ}
 use lib.Dec.{eqb}
-use lib.ListN.{length, getD, drop}
+use lib.ListN.{length, drop}
 use Rattle.netlist.specs.Layout.{inputCount}
 use Rattle.calls.specs.declared.refusal.Checked.{Checked}
 use Rattle.calls.specs.declared.refusal.Checked.the-variants.{Passed, Failed}
@@ -22,9 +22,11 @@ use Rattle.simulator.specs.Step.{outputWord, latchesAfter, valuesAfter}
 unfoldable pub verdictByte : ℕ → ℕ
 verdictByte w = cond (isRejected w) 1 0
 
--- the verdict of a run with these verdict bytes: that of its last cycle, accepted where there is none
+-- document 02, No. 2: "a run's verdict is `rejected` exactly when any cycle of that run was"; of these
+-- verdict bytes
 unfoldable pub verdictOf : List ℕ → Verdict
-verdictOf bytes = cond (eqb (getD bytes (length bytes - 1) 0) 0) Accepted Rejected
+verdictOf [] = Accepted
+verdictOf (b ∷ bs) = cond (eqb b 0) (verdictOf bs) Rejected
 
 -- what a run holds between two cycles, with the verdict bytes so far
 pub record Running : Type 0 where

@@ -1,13 +1,14 @@
 // The simulator of netlists: start, step and run over lent latch words, value words and verdict
 // bytes, 64 lanes at a time, with the caller's tally by value. Knows nothing of graphs. Exports that
 // each step computes and answers, in every lane, what the one valuation that AIGER's equations allow
-// gives, and that a run is its steps one after another, one for each line of its trace.
+// gives, that a run is its steps one after another, one for each line of its trace, and that its verdict
+// is rejected exactly if one of them was.
 ghost use mathlib.Core.Path.{_≡_};
 ghost use Prim.Native.Nat.{ℕ};
 ghost use Rattle.simulator.specs.Start.{startEnd, startOf};
 ghost use Rattle.simulator.specs.Step.{stepEnd, stepOf};
 ghost use Rattle.simulator.specs.Run.{runEnd, runOf};
-ghost use Rattle.simulator.specs.Claims.{StartMeans, WordsOfStart, StepMeans, TraceOfRun, RunIsSteps};
+ghost use Rattle.simulator.specs.Claims.{StartMeans, WordsOfStart, StepMeans, TraceOfRun, RunIsSteps, VerdictMeans};
 ghost use Rattle.calls.specs.Tallies.{RejectedByLane};
 
 mod cycle;
@@ -89,7 +90,7 @@ pub fn step(
     }
 }
 
-// Runs a trace: one cycle a line, each with its byte in verdicts.
+// Runs a trace: one cycle a line, each with its byte in verdicts; rejected where any cycle was.
 pub fn run(
     net: &[u16],
     trace: &[u8],
@@ -101,6 +102,7 @@ pub fn run(
     ensures { λ r. ⌜ runEnd r (now (latches .exit)) (now (values .exit)) (now (verdicts .exit)) ≡ runOf (now (net .entry)) (now (trace .entry)) (now (latches .entry)) (now (values .entry)) (now (verdicts .entry)) tally ⌝ }
     ensures trace { λ _. ⌜ TraceOfRun (now (net .entry)) (now (trace .entry)) (now (latches .entry)) (now (values .entry)) (now (verdicts .entry)) tally ⌝ }
     ensures steps { λ _. ⌜ RunIsSteps (now (net .entry)) (now (trace .entry)) (now (latches .entry)) (now (values .entry)) (now (verdicts .entry)) tally ⌝ }
+    ensures verdict { λ _. ⌜ VerdictMeans (now (net .entry)) (now (trace .entry)) (now (latches .entry)) (now (values .entry)) (now (verdicts .entry)) tally ⌝ }
 {
     let checked = run_check(
         net,

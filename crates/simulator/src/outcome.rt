@@ -23,7 +23,7 @@ pub struct Stepped {
     pub tally: Tally,
 }
 
-// Of a run: that of its last cycle, accepted where there is none.
+// Of a run: rejected where any of its cycles was, else accepted.
 pub enum Verdict {
     Accepted,
     Rejected,

@@ -24,20 +24,19 @@ fn verdict_byte(word: u64) -> u8
     if is_rejected(word) { 1 } else { 0 }
 }
 
-// The verdict of a run of so many cycles: that of its last, accepted where there is none.
+// The verdict of a run of so many cycles: rejected where any of them was.
 fn verdict(verdicts: &[u8], cycles: usize) -> Verdict
     requires { ⌜ cycles ≤ length (now verdicts) ⌝ }
     ensures { λ r. ⌜ r ≡ verdictOf (take cycles (now (verdicts .entry))) ⌝ }
 {
-    if cycles == 0 {
-        return Verdict::Accepted;
+    let mut i: usize = 0;
+    while i < cycles {
+        if verdicts[i] != 0 {
+            return Verdict::Rejected;
+        }
+        i += 1;
     }
-    let last = verdicts[cycles - 1];
-    if last == 0 {
-        Verdict::Accepted
-    } else {
-        Verdict::Rejected
-    }
+    Verdict::Accepted
 }
 
 // Runs the cycles of a trace: the netlist was tested, and no cycle is tested again.
@@ -65,9 +64,9 @@ pub(crate) fn run_cycles(
         at = next_place(trace, at, n);
         k += 1;
     }
-    let last = verdict(verdicts, lines);
+    let judged = verdict(verdicts, lines);
     Ran {
-        outcome: RunOutcome::Done(last),
+        outcome: RunOutcome::Done(judged),
         tally: total,
     }
 }

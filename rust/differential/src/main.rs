@@ -1,6 +1,7 @@
 //! Compares the proved library with the reference over seeded random and
 //! damaged inputs: returns, out-parameters and every cell of every buffer, also
-//! after refusals; and tallies and verdicts with the paths of the graph.
+//! after refusals; and tallies, verdict bytes and the verdicts of runs with the
+//! paths of the graph.
 
 mod aigers;
 mod bench;

@@ -1,6 +1,6 @@
 //! Demand 3: an accepted graph, an accepted start, and a list of steps and runs
-//! with latch words and tally handed on, refused calls included; its tally and
-//! verdicts against the paths of the graph.
+//! with latch words and tally handed on, refused calls included; its tally, its
+//! verdict bytes and the verdict of each run against the paths of the graph.
 
 use crate::bench::Bench;
 use crate::compare::{Call, Lengths, Memory, Mismatch, Name, Outcome};
@@ -21,11 +21,13 @@ struct Thread {
     shown: Vec<Shown>,
 }
 
-/// After so many cycles: the tally, and the verdict bytes of the last ones.
+/// After so many cycles: the tally, the verdict bytes of the last ones, which are
+/// those of one call, and the verdict that it answered if it was a run.
 struct Shown {
     cycles: usize,
     tally: Tally,
     verdicts: Vec<u8>,
+    verdict: Option<u64>,
 }
 
 pub fn sequence(bench: &mut Bench) -> Result<(), Mismatch> {
@@ -110,7 +112,7 @@ impl Thread {
         if outcome.is_accepted() {
             self.cycles.push(call.bytes);
             self.hand_on(&outcome);
-            self.show(vec![u8::from(outcome.memory.answer != u64::MAX)]);
+            self.show(vec![u8::from(outcome.memory.answer != u64::MAX)], None);
         }
         Ok(())
     }
@@ -129,7 +131,7 @@ impl Thread {
             let verdicts = outcome.memory.verdicts.get()[..new_cycles.len()].to_vec();
             self.cycles.extend(new_cycles);
             self.hand_on(&outcome);
-            self.show(verdicts);
+            self.show(verdicts, Some(outcome.memory.answer));
         }
         Ok(())
     }
@@ -157,11 +159,12 @@ impl Thread {
         self.tally = outcome.memory.tally;
     }
 
-    fn show(&mut self, verdicts: Vec<u8>) {
+    fn show(&mut self, verdicts: Vec<u8>, verdict: Option<u64>) {
         self.shown.push(Shown {
             cycles: self.cycles.len(),
             tally: self.tally,
             verdicts,
+            verdict,
         });
     }
 
@@ -189,12 +192,18 @@ impl Thread {
         };
         let last = &rejected[rejected.len() - shown.verdicts.len()..];
         let due_verdicts: Vec<u8> = last.iter().map(|rejected| u8::from(*rejected)).collect();
-        if shown.tally == due_tally && shown.verdicts == due_verdicts {
+        // 1, rejected, exactly when any cycle of the run is.
+        let due_verdict = shown.verdict.map(|_| u64::from(last.contains(&true)));
+        if shown.tally == due_tally
+            && shown.verdicts == due_verdicts
+            && shown.verdict == due_verdict
+        {
             return Ok(());
         }
         Err(Mismatch(format!(
             "calls: build, start, then steps and runs\ngraph: \"{}\"\ncycles: {:?}\n\
-             after {} cycles: {:?}, by paths {:?}\nverdicts {:?}, by paths {:?}\n",
+             after {} cycles: {:?}, by paths {:?}\nverdict bytes {:?}, by paths {:?}\n\
+             verdict of the run {:?}, by paths {:?}\n",
             self.text.escape_ascii(),
             self.cycles
                 .iter()
@@ -205,6 +214,8 @@ impl Thread {
             due_tally,
             shown.verdicts,
             due_verdicts,
+            shown.verdict,
+            due_verdict,
         )))
     }
 }

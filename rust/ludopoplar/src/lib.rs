@@ -34,6 +34,7 @@ pub struct Tally {
     pub rejected: u32,
 }
 
+/// Of one run: rejected exactly when any cycle of it was.
 #[derive(Clone, Copy, Debug, PartialEq, Eq)]
 pub enum Verdict {
     Accepted,
@@ -93,7 +94,7 @@ pub fn step(
 }
 
 /// Simulates a trace, with one byte a cycle in `verdicts`, 1 where rejected;
-/// returns the verdict of the last cycle.
+/// returns the verdict over all cycles of this run, accepted where there is none.
 pub fn run(
     net: &[u16],
     trace: &[u8],

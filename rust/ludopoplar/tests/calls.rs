@@ -1,4 +1,5 @@
-//! The safe calls: document 01's graph G, the words of a start, empty slices, refusals.
+//! The safe calls: document 01's graph G, the words of a start, the verdict of each run, empty
+//! slices, refusals.
 
 use ludopoplar::{build, read, run, start, step, write, Refusal, Tally, Verdict};
 
@@ -38,7 +39,7 @@ fn run_and_step() {
         &mut verdicts,
         &mut tally,
     );
-    assert_eq!((verdict, verdicts), (Ok(Verdict::Accepted), [1, 0, 0]));
+    assert_eq!((verdict, verdicts), (Ok(Verdict::Rejected), [1, 0, 0]));
     let word = step(&net, b"110", &mut latches, &mut values, &mut tally);
     assert_eq!(word, Ok(0));
     let due = Tally {
@@ -46,6 +47,59 @@ fn run_and_step() {
         rejected: 2,
     };
     assert_eq!(tally, due);
+}
+
+/// G on each trace in turn after one start: the verdict and bytes of each run, and the tally.
+fn runs_of_g<const N: usize>(traces: [&[u8]; N]) -> ([(Verdict, [u8; 4]); N], Tally) {
+    let net = net_of_g();
+    let (mut latches, mut values, mut tally) = ([5; 2], [5; 13], Tally::default());
+    start(&net, &mut latches, &mut tally).unwrap();
+    let runs = traces.map(|trace| {
+        let mut verdicts = [5; 4];
+        let verdict = run(
+            &net,
+            trace,
+            &mut latches,
+            &mut values,
+            &mut verdicts,
+            &mut tally,
+        );
+        (verdict.unwrap(), verdicts)
+    });
+    (runs, tally)
+}
+
+/// Document 02, No. 2. A path of G is one edge long, so a cycle is rejected exactly where it is 110.
+#[test]
+fn verdict_of_each_run() {
+    use Verdict::{Accepted, Rejected};
+    let tally = |cycles, rejected| Tally { cycles, rejected };
+    assert_eq!(
+        runs_of_g([b"110\n", b"111\n"]),
+        (
+            [(Rejected, [1, 5, 5, 5]), (Accepted, [0, 5, 5, 5])],
+            tally(2, 1)
+        )
+    );
+    assert_eq!(
+        runs_of_g([
+            b"111\n110\n010\n",
+            b"111\n010\n110\n",
+            b"110\n110\n110\n",
+            b"111\n010\n101\n",
+            b"",
+        ]),
+        (
+            [
+                (Rejected, [0, 1, 0, 5]),
+                (Rejected, [0, 0, 1, 5]),
+                (Rejected, [1, 1, 1, 5]),
+                (Accepted, [0, 0, 0, 5]),
+                (Accepted, [5, 5, 5, 5]),
+            ],
+            tally(12, 5)
+        )
+    );
 }
 
 /// A netlist of one input and a latch for each reset, whose output is the input.

@@ -1,7 +1,8 @@
-//! Document 01 once more, in plain safe Rust, written from its sentences alone.
+//! Document 01, as No. 2 of document 02 changes it, once more in plain safe Rust,
+//! written from their sentences alone.
 //!
 //! Nothing here is proved and nothing is meant to be fast: each module follows
-//! the document's wording closely enough to be read beside it. The proved
+//! the documents' wording closely enough to be read beside it. The proved
 //! library is compared with this crate by the program `differential`.
 
 mod aiger;

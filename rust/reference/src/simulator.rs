@@ -13,6 +13,7 @@ pub struct Tally {
     pub rejected: u32,
 }
 
+/// Of a run; a step has none.
 #[derive(Clone, Copy, Debug, PartialEq, Eq)]
 pub enum Verdict {
     Accepted,
@@ -62,7 +63,7 @@ pub fn step(
     Ok(one_cycle(&netlist, cycle, latches, values, tally))
 }
 
-/// Checks 1, 16, 15, 12, 17; answers the verdict of the last cycle.
+/// Checks 1, 16, 15, 12, 17; answers the verdict over all cycles of this run.
 pub fn run(
     net: &[u16],
     trace: &[u8],
@@ -77,12 +78,14 @@ pub fn run(
     check_words(&netlist, latches, values)?;
     check_buffer(verdicts, cycles.len())?;
     check_tally(tally, cycles.len())?;
-    // "`accepted` if its last cycle was, or there was none."
+    // Document 02, No. 2: "A run's verdict is `rejected` exactly when any cycle of that run was."
     let mut verdict = Verdict::Accepted;
     for (cycle, byte) in cycles.into_iter().zip(verdicts) {
         let word = one_cycle(&netlist, cycle, latches, values, tally);
-        verdict = verdict_of(word);
-        *byte = u8::from(verdict == Verdict::Rejected);
+        *byte = u8::from(is_rejected(word));
+        if is_rejected(word) {
+            verdict = Verdict::Rejected;
+        }
     }
     Ok(verdict)
 }
@@ -122,11 +125,8 @@ fn check_tally(tally: &Tally, new_cycles: usize) -> Result<(), Refusal> {
 }
 
 /// "A cycle is rejected if any lane of it is 0."
-fn verdict_of(word: u64) -> Verdict {
-    match word {
-        ALL_LANES => Verdict::Accepted,
-        _ => Verdict::Rejected,
-    }
+fn is_rejected(word: u64) -> bool {
+    word != ALL_LANES
 }
 
 /// One cycle of an accepted call: fills the value words, moves the latches,
@@ -156,7 +156,7 @@ fn one_cycle(
     }
     let output = word(values, netlist.output);
     tally.cycles += 1;
-    tally.rejected += u32::from(verdict_of(output) == Verdict::Rejected);
+    tally.rejected += u32::from(is_rejected(output));
     output
 }
 
@@ -225,7 +225,7 @@ mod tests {
         }
     }
 
-    /// Verdict bytes and last verdict of a graph over a trace.
+    /// Verdict bytes and verdict of a graph over a trace.
     fn judged(graph: &str, trace: &str) -> (Vec<u8>, Verdict) {
         let mut bench = Bench::of_graph(graph);
         let verdict = bench.run(trace).unwrap();
@@ -243,7 +243,7 @@ mod tests {
 
     #[test]
     fn trace_of_g() {
-        assert_eq!(judged(G, "110,111,010"), (vec![1, 0, 0], Verdict::Accepted));
+        assert_eq!(judged(G, "110,111,010"), (vec![1, 0, 0], Verdict::Rejected));
         assert_eq!(judged(G, "010"), (vec![0], Verdict::Accepted));
     }
 
@@ -252,8 +252,53 @@ mod tests {
         let graph = format!("{G},E b b t p 1");
         assert_eq!(
             judged(&graph, "110,011,001"),
-            (vec![1, 1, 0], Verdict::Accepted)
+            (vec![1, 1, 0], Verdict::Rejected)
         );
+    }
+
+    /// A path of G is one edge long, so a cycle is rejected exactly where it is 110.
+    #[test]
+    fn one_rejected_cycle_rejects_the_run() {
+        use Verdict::{Accepted, Rejected};
+        for (trace, bytes, verdict) in [
+            ("111", vec![0], Accepted),
+            ("110", vec![1], Rejected),
+            ("111,010,110", vec![0, 0, 1], Rejected),
+            ("110,010,111", vec![1, 0, 0], Rejected),
+            ("111,110,010", vec![0, 1, 0], Rejected),
+            ("110,110,110", vec![1, 1, 1], Rejected),
+            ("111,010,101", vec![0, 0, 0], Accepted),
+        ] {
+            assert_eq!(judged(G, trace), (bytes, verdict), "{trace}");
+        }
+        // By one path of two edges; and in the lanes of k = 1 only.
+        let chain = "S p,S q,V a,V b,V c,E a b - 1 q,E b c t p 1";
+        assert_eq!(judged(chain, "100,010,000"), (vec![0, 1, 0], Rejected));
+        let constant = "S p,K k,V a,E a a t k p";
+        assert_eq!(judged(constant, "11,10,11"), (vec![0, 1, 0], Rejected));
+    }
+
+    #[test]
+    fn each_run_is_judged_alone() {
+        let mut bench = Bench::of_graph(G);
+        assert_eq!(bench.run("110"), Ok(Verdict::Rejected));
+        assert_eq!(bench.verdicts[..2], [1, 9]);
+        assert_eq!(bench.run("111"), Ok(Verdict::Accepted));
+        assert_eq!(bench.verdicts[..2], [0, 9]);
+        let due = Tally {
+            cycles: 2,
+            rejected: 1,
+        };
+        assert_eq!(bench.tally, due);
+        assert_eq!(bench.run_bytes(b""), Ok(Verdict::Accepted));
+        assert_eq!((&bench.verdicts[..2], bench.tally), (&[0, 9][..], due));
+        // A rejected step is in the tally, but in no run.
+        assert_eq!(bench.step("110"), Ok(0));
+        assert_eq!(bench.run("010"), Ok(Verdict::Accepted));
+        // A path may begin in the run before.
+        let mut bench = Bench::of_graph("S p,V a,V b,E a b - 1 0,E b a t p 1");
+        assert_eq!(bench.run("10"), Ok(Verdict::Accepted));
+        assert_eq!(bench.run("01"), Ok(Verdict::Rejected));
     }
 
     #[test]
@@ -349,6 +394,7 @@ mod tests {
         let mut bench = Bench::of_graph(G);
         assert_eq!(bench.run_bytes(b""), Ok(Verdict::Accepted));
         assert!(bench.values.iter().all(|word| *word == 7));
+        assert!(bench.verdicts.iter().all(|byte| *byte == 9));
         bench.values.truncate(12);
         assert_eq!(bench.run_bytes(b""), Err((12, 0)));
         bench.values.push(7);

@@ -36,7 +36,7 @@ fn page_of_the_longest_input() {
         .clone()
         .map(|(cycle, _)| format!("R\t{cycle}\n"))
         .collect();
-    let verdict = if rejected.last() == Some(&true) {
+    let verdict = if rejected.contains(&true) {
         "rejected"
     } else {
         "accepted"

@@ -7,6 +7,7 @@ use lib.Seq.{length-take-le}
 use Rattle.assertion.proofs.PathLaws.{paths-mean}
 use Rattle.page_text.proofs.PartLaws.{graph-within, trace-at}
 use Rattle.page.proofs.PageLaws.{long-text, parted-text}
+use Rattle.page.proofs.SumLaws.{judgement-means}
 use Rattle.page.proofs.LengthLaws.{monitor-fits}
 use Rattle.page.proofs.monitor_page.Statement.{statement}
 use Rattle.page.proofs.monitor_page.Tie as tie
@@ -24,7 +25,7 @@ returns : tie.Need-returns
 returns c =
     let e = c .before .before in
     let s = now (e .before .before .before .before .before .before .args .input) in
-    (rw (long-text s (omega arith)) (rw (e .before .refusal .ensures) at (e .refused-page .ensures)), (monitor-fits s, paths-mean))
+    (rw (long-text s (omega arith)) (rw (e .before .refusal .ensures) at (e .refused-page .ensures)), (monitor-fits s, (paths-mean, judgement-means s)))
 
 graph-length-requires : tie.Need-graph-length-requires
 graph-length-requires c κs = search needs
@@ -63,7 +64,7 @@ returns-2 c =
     let s = now (j .before .before .before .before .before .args .input) in
     let g = j .before .graph-length .ensures in
     let t = trace-at s (j .if2 .at) g (j .if2 .came) (λ w. (omega arith, omega arith)) (λ w. (omega arith, omega arith)) in
-    (rw (parted-text s (j .if2 .at) (omega arith) g (t .part)) at (e .judged-page .ensures), (monitor-fits s, paths-mean))
+    (rw (parted-text s (j .if2 .at) (omega arith) g (t .part)) at (e .judged-page .ensures), (monitor-fits s, (paths-mean, judgement-means s)))
 
 pub monitor-page-spec : {M : Type 1} → statement M
 monitor-page-spec =

@@ -1,6 +1,7 @@
 #!/usr/bin/env python3
 """Writes stdin and stdout of the program page_cases beside this file: inputs of the two programs, each with the page
-that documents 01 and 02 ask for. The pages are written here by hand, case by case; nothing is computed by the programs.
+that document 01 asks for, with the verdict of document 02. The pages are written here by hand, case by case; nothing is
+computed by the programs.
 
 A case in stdin is a line `LENGTH<tab>LABEL` and then that many bytes; a label starts with `m` for the monitor's page
 and `a` for AIGER's. In stdout it is the label's line and then the page."""
@@ -46,7 +47,7 @@ ONE = ["V a", "E a a t 1 0"]
 # a false consequent shows only a cycle later, on the terminal edge
 LATE = ["S p", "S q", "V a", "V b", "V c", "E a b - p q", "E b c t 1 1"]
 
-# ---- document 01's examples
+# ---- document 01's examples, with the verdict of document 02, No. 2
 monitor("graph G", lines(*G, "T", "110", "111", "010"), "R 1", "sum 3 1 rejected")
 monitor("17 gates", lines(*G2, "T", "110", "011", "001"), "R 1", "R 2", "sum 3 2 rejected")
 monitor("constant, rejected", lines(*K, "T", "10"), "R 1", "sum 1 1 rejected")

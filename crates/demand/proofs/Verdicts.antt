@@ -4,13 +4,12 @@ use mathlib.Core.Path.{_≡_, refl, ap, subst, sym, _∙_}
 use mathlib.Core.Bool.{Bool, true, false, cond}
 use mathlib.Core.List.{List, [], _∷_, _++_, append-assoc}
 use native.Mathlib.Omega.{arith}
-use lib.Dec.{eqb}
 use Rattle.assertion.specs.Graph.{Graph, Cycle}
 use Rattle.assertion.specs.Paths.{isRejected, verdicts}
 use Rattle.assertion.specs.Paths as paths
 use Rattle.assertion.proofs.PathLaws.{paths-mean}
 use Rattle.simulator.specs.declared.outcome.Verdict.{Verdict}
-use Rattle.simulator.specs.declared.outcome.Verdict.the-variants.{Accepted, Rejected}
+use Rattle.simulator.specs.declared.outcome.Verdict.the-variants.{Rejected}
 use Rattle.simulator.specs.Run.{verdictOf}
 use Rattle.demand.specs.Demand.{SomeRejected, VerdictOfPaths}
 

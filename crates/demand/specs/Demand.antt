@@ -43,9 +43,9 @@ unfoldable pub VerdictRight : Graph → List Cycle → Call → Called → Type 
 VerdictRight g seen (stepCall cycle values) d = Unit {0}
 VerdictRight g seen (runCall trace values bytes) d = (v : Verdict) → d .answer ≡ ran (Done v) → VerdictOfPaths g seen (d .cycles) v
 
--- after a list of calls, before which the cycles seen were given: the tally's cycles are the cycles of
--- the accepted calls, in call order, and its rejected are those of them that some setting and some
--- rejecting path condemn
+-- after a list of calls, before which the cycles seen were given: each run's bytes and verdict are right; the
+-- tally's cycles are the cycles of the accepted calls, in call order, and its rejected are those of them that
+-- some setting and some rejecting path condemn
 unfoldable pub Counted : Graph → List ℕ → List Cycle → Kept → List Call → Type 0
 Counted g net seen k [] = (k .tally .cycles ≡ length seen) × (k .tally .rejected ≡ countRejected g seen)
 Counted g net seen k (x ∷ xs) =

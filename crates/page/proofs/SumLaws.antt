@@ -1,28 +1,41 @@
--- The last line of a page that is no refusal: its verdict is rejected exactly if some path condemns one of the cycles. Assumes nothing.
-use mathlib.Core.Path.{_≡_, refl}
-use mathlib.Core.List.{[]}
-use Prim.Native.Nat.{_≤_}
+-- The verdict on a page that is no refusal: `rejected` exactly if some path condemns one of the cycles. Assumes nothing.
+use mathlib.Core.Path.{_≡_, refl, ap}
+use mathlib.Core.List.{List, []}
 use borrow.Author.Tests.{le-leb}
 use lib.ListN.{length}
-use Rattle.assertion.specs.Graph.{Bytes}
+use Rattle.text.specs.Quoted.{bytes}
+use Rattle.assertion.specs.Graph.{Bytes, Graph}
 use Rattle.assertion.specs.Paths.{verdicts}
 use Rattle.trace.specs.Traces.{cyclesOf}
+use Rattle.simulator.specs.declared.outcome.Verdict.{Verdict}
+use Rattle.simulator.specs.declared.outcome.Verdict.the-variants.{Accepted, Rejected}
 use Rattle.simulator.specs.Run.{verdictOf}
+use Rattle.demand.specs.Demand.{SomeRejected, VerdictOfPaths}
+use Rattle.demand.proofs.Held.{verdicts-length}
 use Rattle.demand.proofs.Verdicts.{verdict-of-paths}
 use Rattle.builder.specs.Build.{variablesOf}
-use Rattle.text.specs.Writer.{joined}
 use Rattle.page_text.specs.Parts.{tracePart}
-use Rattle.page_text.specs.Lines.{cycleLine, report}
+use Rattle.page_text.specs.Lines.{verdictField, sumLine, report}
 use Rattle.page.specs.Pages.{graphPage, inputsOf, judgement, tracePage, monitorText, JudgementMeans}
 
+-- the word of a verdict
+word-rejected : (v : Verdict) → v ≡ Rejected → verdictField v ≡ bytes "\trejected\n"
+unfolding verdictField
+word-rejected v e = ap verdictField e
+
+word-accepted : (g : Graph) (cycles : List Bytes) (v : Verdict) → VerdictOfPaths g [] cycles v → (SomeRejected g [] cycles → ⊥) → verdictField v ≡ bytes "\taccepted\n"
+unfolding verdictField
+word-accepted g cycles Accepted p none = refl
+word-accepted g cycles Rejected p none = absurd (none (p .some refl))
+
 pub judgement-means : (input : Bytes) → JudgementMeans input
-unfolding monitorText graphPage tracePage judgement report
+unfolding monitorText graphPage tracePage judgement report sumLine
 judgement-means input g short read small right =
     let cycles = cyclesOf (inputsOf g) (tracePart input) in
-    let bytes = verdicts g [] cycles in
+    let p = verdict-of-paths g [] cycles in
     record {
-      before = joined (cycleLine bytes) (length bytes);
-      verdict = verdictOf bytes;
-      last = rw (le-leb (length input) 65536 short, read, le-leb (variablesOf g) 4095 small, right) refl;
-      right = verdict-of-paths g [] cycles;
+      word = verdictField (verdictOf (verdicts g [] cycles));
+      whole = rw (le-leb (length input) 65536 short, read, le-leb (variablesOf g) 4095 small, right, verdicts-length g [] cycles) refl;
+      rejected = λ s. word-rejected _ (p .any s);
+      accepted = word-accepted g cycles _ p;
     }

@@ -7,6 +7,8 @@ use Prim.Native.Nat.{ℕ, _+_, _≤_}
 use lib.Dec.{eqb, leb}
 use lib.ListN.{length, drop}
 use Rattle.text.specs.declared.Refusal.{Refusal}
+use Rattle.text.specs.Quoted.{bytes}
+use Rattle.text.specs.Writer.{joined}
 use Rattle.assertion.specs.Graph.{Bytes, Graph}
 use Rattle.assertion.specs.Paths.{verdicts, countRejected}
 use Rattle.graph.specs.Reading.{Outcome, refused, accepted, graphOf}
@@ -16,13 +18,12 @@ use Rattle.builder.specs.Build.{variablesOf}
 use Rattle.builder.specs.declared.Cause.the-variants.{GraphText, TooManyVariables}
 use Rattle.aiger.specs.Format.{fileOf}
 use Rattle.trace.specs.Traces.{faultOf, cyclesOf}
-use Rattle.simulator.specs.declared.outcome.Verdict.{Verdict}
 use Rattle.simulator.specs.Run.{verdictOf}
-use Rattle.demand.specs.Demand.{VerdictOfPaths}
+use Rattle.demand.specs.Demand.{SomeRejected}
 use Rattle.calls.specs.Refusals as simulator
 use Rattle.calls.specs.declared.refusal.Cause.the-variants.{WrongLine}
 use Rattle.page_text.specs.Parts.{graphPart, tracePart}
-use Rattle.page_text.specs.Lines.{refusedLine, sumLine, report}
+use Rattle.page_text.specs.Lines.{field, refusedLine, cycleLine, report}
 use Rattle.page.specs.declared.Cause.{Cause}
 use Rattle.page.specs.declared.Cause.the-variants.{ShortBuffer}
 use Rattle.page.specs.declared.InputFault.{InputFault}
@@ -64,13 +65,15 @@ monitorText input =
     (graphPage (graphOf (graphPart input)) (tracePage (tracePart input)))
     (refusedLine (inputRefusal TooLong))
 
--- THE CLAIM on the last line of a page that is no refusal: it has the cycles, how many are rejected, and the verdict,
--- which is rejected exactly if some setting and some rejecting path condemn one of the cycles
+-- THE CLAIM on the verdict of a page that is no refusal. After the lines of the rejected cycles the page ends with `sum`,
+-- the cycles, how many are rejected, and a word, which is `rejected` exactly if some setting and some rejecting path
+-- condemn one of the cycles
 pub record SumMeans (g : Graph) (cycles : List Bytes) (page : Bytes) : Type 0 where
-  pub before : Bytes
-  pub verdict : Verdict
-  pub last : page ≡ before ++ sumLine (length cycles) (countRejected g cycles) verdict
-  pub right : VerdictOfPaths g [] cycles verdict
+  pub word : Bytes
+  pub whole : page ≡ joined (cycleLine (verdicts g [] cycles)) (length cycles)
+      ++ (bytes "sum" ++ (field (length cycles) ++ (field (countRejected g cycles) ++ word)))
+  pub rejected : SomeRejected g [] cycles → word ≡ bytes "\trejected\n"
+  pub accepted : (SomeRejected g [] cycles → ⊥) → word ≡ bytes "\taccepted\n"
 
 abbrev pub JudgementMeans : Bytes → Type 0
 JudgementMeans input =

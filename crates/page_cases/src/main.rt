@@ -1,9 +1,10 @@
 // Runs both page functions over the cases of standard input and writes, for each, its label and the page as it is.
 //
 // A case is a line with its length in bytes, a tab, `m` for the monitor's page or `a` for AIGER's, and the rest of its
-// label; then that many bytes of input. cases.py writes the cases and, by hand, the pages that document 01 asks for.
-// Each page is asked for three times, into a buffer with surplus, one of just its length and one a byte shorter; a line
-// in capitals says where an answer or a buffer is not what it must be. Last come the cases of the largest inputs.
+// label; then that many bytes of input. cases.py writes the cases and, by hand, the pages that document 01 asks for,
+// with the verdict of document 02. Each page is asked for three times, into a buffer with surplus, one of just its
+// length and one a byte shorter; a line in capitals says where an answer or a buffer is not what it must be. Last come
+// the cases of the largest inputs.
 use page::Paged;
 use text::Line;
 use text::Number;

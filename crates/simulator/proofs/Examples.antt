@@ -75,9 +75,9 @@ runs-rejected : runOf wire (49 ∷ 10 ∷ 48 ∷ 10 ∷ 49 ∷ 10 ∷ []) (9 ∷
 unfolding runOf runAs ranTo runCycles runCycle verdictByte verdictOf runCheck isShort faultOf faultFrom fitsLine lineCount cyclesOf cyclesFrom isBit hasRoom counted isRejected hasLatches hasValues isNetlist headerOk outputOk latchOk gateOk isWithin isFree freeCount each lane numberOf wordOf literalOf variableOf isInverted outputWord latchesAfter valuesAfter cycleWords outputOf nextOf nextsOf valuesOf front gatesOf gateOf bitOf litOf signed
 runs-rejected = refl
 
--- the tally's past is no part of a verdict: 1 after it is accepted, and so is no cycle at all
-runs-accepted : runOf wire (49 ∷ 10 ∷ []) [] (9 ∷ 9 ∷ []) (9 ∷ []) (tally 8 4)
-    ≡ runEnd (record { outcome = run.Done Accepted; tally = tally 9 4 }) [] (0 ∷ 18446744073709551615 ∷ []) (0 ∷ [])
+-- neither the tally's past nor the surplus is part of a verdict: 1 after it is accepted, and so is no cycle at all
+runs-accepted : runOf wire (49 ∷ 10 ∷ []) [] (9 ∷ 9 ∷ []) (9 ∷ 1 ∷ []) (tally 8 4)
+    ≡ runEnd (record { outcome = run.Done Accepted; tally = tally 9 4 }) [] (0 ∷ 18446744073709551615 ∷ []) (0 ∷ 1 ∷ [])
 unfolding runOf runAs ranTo runCycles runCycle verdictByte verdictOf runCheck isShort faultOf faultFrom fitsLine lineCount cyclesOf cyclesFrom isBit hasRoom counted isRejected hasLatches hasValues isNetlist headerOk outputOk latchOk gateOk isWithin isFree freeCount each lane numberOf wordOf literalOf variableOf isInverted outputWord latchesAfter valuesAfter cycleWords outputOf nextOf nextsOf valuesOf front gatesOf gateOf bitOf litOf signed
 runs-accepted = refl
 

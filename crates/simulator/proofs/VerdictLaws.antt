@@ -1,8 +1,8 @@
 -- The verdict of a run is rejected exactly if some cycle has the byte 1. Assumes nothing.
-use mathlib.Core.Path.{_≡_, refl, sym, ap, _∙_}
+use mathlib.Core.Path.{_≡_, refl, sym, ap, subst, _∙_}
 use mathlib.Core.Bool.{Bool, true, false, cond}
 use mathlib.Core.Logic.{_⊎_, inl, inr, ⊎-elim}
-use mathlib.Core.List.{List, [], _∷_, _++_, map}
+use mathlib.Core.List.{List, [], _∷_, map}
 use Prim.Native.Nat.{ℕ, zero, suc, _<_}
 use native.Mathlib.Omega.{arith}
 use lib.Dec.{eqb}
@@ -17,8 +17,8 @@ use Rattle.calls.specs.Refusals.{runCheck}
 use Rattle.trace.specs.Traces.{cyclesOf}
 use Rattle.simulator.specs.declared.outcome.Verdict.{Verdict}
 use Rattle.simulator.specs.declared.outcome.Verdict.the-variants.{Accepted, Rejected}
-use Rattle.simulator.specs.Run.{verdictByte, verdictOf, runOf}
-use Rattle.simulator.specs.Claims.{VerdictOfRun}
+use Rattle.simulator.specs.Run.{verdictByte, verdictOf, RunEnd, runOf}
+use Rattle.simulator.specs.Claims.{VerdictOfRun, VerdictMeans}
 use Rattle.simulator.proofs.RunMeaning.{outputsOf, bytesOf, length-outputs, run-verdicts, run-outcome}
 
 -- ---- of any bytes
@@ -86,7 +86,7 @@ module _ (net trace latches values verdicts : List ℕ) (t : Tally) (e : runChec
       ap (λ (b : List ℕ). getD b k 0) (run-verdicts net trace latches values verdicts t e)
       ∙ List·getD-append bytes (drop (length cycles) verdicts) 0 k (omega (arith, many, long))
 
-  pub verdict-of-run : VerdictOfRun (length cycles) (runOf net trace latches values verdicts t)
+  verdict-of-run : VerdictOfRun (length cycles) (runOf net trace latches values verdicts t)
   verdict-of-run =
       record {
         verdict = verdictOf bytes;
@@ -97,3 +97,9 @@ module _ (net trace latches values verdicts : List ℕ) (t : Tally) (e : runChec
             (zero-or-one outputs);
         any = λ k l b. verdict-any bytes k (omega (arith, many, long)) (λ z. let o : _≡_ {A = ℕ} 0 1 = sym z ∙ sym (stands k l) ∙ b in omega arith);
       }
+
+-- what is claimed of an end that is what the definition gives
+pub verdict-means : (net trace latches values verdicts : List ℕ) (t : Tally) (end : RunEnd) → end ≡ runOf net trace latches values verdicts t
+    → VerdictMeans net trace latches values verdicts t end
+verdict-means net trace latches values verdicts t end e passed =
+    subst (VerdictOfRun (length (cyclesOf (inputCount net) trace))) (sym e) (verdict-of-run net trace latches values verdicts t passed)

@@ -119,7 +119,7 @@ RunIsSteps net trace latches values verdicts t =
     runCheck net trace (length latches) (length values) (length verdicts) t ≡ Passed → StepsOfRun net trace latches values verdicts t
 
 -- ---- run: document 02, No. 2: "a run's verdict is `rejected` exactly when any cycle of that run was"
--- of a run that ended so after so many cycles
+-- of a run that ended so, after so many cycles
 pub record VerdictOfRun (cycles : ℕ) (end : RunEnd) : Type 0 where
   pub verdict : Verdict
   pub answered : end .answer .outcome ≡ run.Done verdict
@@ -127,7 +127,7 @@ pub record VerdictOfRun (cycles : ℕ) (end : RunEnd) : Type 0 where
   pub some : verdict ≡ Rejected → (k : ℕ) × (k < cycles) × (getD (end .verdicts) k 0 ≡ 1)
   pub any : (k : ℕ) → k < cycles → getD (end .verdicts) k 0 ≡ 1 → verdict ≡ Rejected
 
-abbrev pub VerdictMeans : List ℕ → List ℕ → List ℕ → List ℕ → List ℕ → Tally → Type 0
-VerdictMeans net trace latches values verdicts t =
-    runCheck net trace (length latches) (length values) (length verdicts) t ≡ Passed
-    → VerdictOfRun (length (cyclesOf (inputCount net) trace)) (runOf net trace latches values verdicts t)
+-- of a run that ended so and is not refused
+abbrev pub VerdictMeans : List ℕ → List ℕ → List ℕ → List ℕ → List ℕ → Tally → RunEnd → Type 0
+VerdictMeans net trace latches values verdicts t end =
+    runCheck net trace (length latches) (length values) (length verdicts) t ≡ Passed → VerdictOfRun (length (cyclesOf (inputCount net) trace)) end

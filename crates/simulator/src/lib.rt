@@ -1,8 +1,8 @@
 // The simulator of netlists: start, step and run over lent latch words, value words and verdict
 // bytes, 64 lanes at a time, with the caller's tally by value. Knows nothing of graphs. Exports that
 // each step computes and answers, in every lane, what the one valuation that AIGER's equations allow
-// gives, that a run is its steps one after another, one for each line of its trace, and that its verdict
-// is rejected exactly if one of them was.
+// gives, that a run is its steps one after another, one for each line of its trace, and that it answers
+// rejected exactly if one of their bytes is 1.
 ghost use mathlib.Core.Path.{_≡_};
 ghost use Prim.Native.Nat.{ℕ};
 ghost use Rattle.simulator.specs.Start.{startEnd, startOf};
@@ -102,7 +102,7 @@ pub fn run(
     ensures { λ r. ⌜ runEnd r (now (latches .exit)) (now (values .exit)) (now (verdicts .exit)) ≡ runOf (now (net .entry)) (now (trace .entry)) (now (latches .entry)) (now (values .entry)) (now (verdicts .entry)) tally ⌝ }
     ensures trace { λ _. ⌜ TraceOfRun (now (net .entry)) (now (trace .entry)) (now (latches .entry)) (now (values .entry)) (now (verdicts .entry)) tally ⌝ }
     ensures steps { λ _. ⌜ RunIsSteps (now (net .entry)) (now (trace .entry)) (now (latches .entry)) (now (values .entry)) (now (verdicts .entry)) tally ⌝ }
-    ensures verdict { λ _. ⌜ VerdictMeans (now (net .entry)) (now (trace .entry)) (now (latches .entry)) (now (values .entry)) (now (verdicts .entry)) tally ⌝ }
+    ensures verdict { λ r. ⌜ VerdictMeans (now (net .entry)) (now (trace .entry)) (now (latches .entry)) (now (values .entry)) (now (verdicts .entry)) tally (runEnd r (now (latches .exit)) (now (values .exit)) (now (verdicts .exit))) ⌝ }
 {
     let checked = run_check(
         net,

@@ -4,7 +4,7 @@ use borrow.Author.Needs.{needs}
 use Rattle.simulator.proofs.RunLaws.{run-refused}
 use Rattle.simulator.proofs.RunTrace.{trace-of-run}
 use Rattle.simulator.proofs.RunSteps.{run-is-steps}
-use Rattle.simulator.proofs.VerdictLaws.{verdict-of-run}
+use Rattle.simulator.proofs.VerdictLaws.{verdict-means}
 use Rattle.simulator.proofs.run.Statement.{statement}
 use Rattle.simulator.proofs.run.Tie as tie
 
@@ -22,10 +22,9 @@ run-cycles-requires c κs = sym (c .before .before .before .before .before .run-
 
 returns : tie.Need-returns
 returns c =
-    let s = c .before .before .before .before .before .before .before .before .before in (
-      run-refused (s .args .net .now) (s .args .trace .now) (s .args .latches .now) (s .args .values .now) (s .args .verdicts .now) (s .args .tally) _ _ (c .before .before .before .run-check .ensures) (c .before .checked .given .1),
-      (trace-of-run _ _ _ _ _ _, (run-is-steps _ _ _ _ _ _, verdict-of-run _ _ _ _ _ _)),
-    )
+    let s = c .before .before .before .before .before .before .before .before .before in
+    let e = run-refused (s .args .net .now) (s .args .trace .now) (s .args .latches .now) (s .args .values .now) (s .args .verdicts .now) (s .args .tally) _ _ (c .before .before .before .run-check .ensures) (c .before .checked .given .1) in
+    (e, (trace-of-run _ _ _ _ _ _, (run-is-steps _ _ _ _ _ _, verdict-means _ _ _ _ _ _ _ e)))
 
 same-length : tie.Need-same-length
 same-length c = search needs
@@ -37,7 +36,9 @@ same-length-3 : tie.Need-same-length-3
 same-length-3 c = search needs
 
 returns-2 : tie.Need-returns-2
-returns-2 c = (c .before .before .before .before .before .before .run-cycles .ensures, (trace-of-run _ _ _ _ _ _, (run-is-steps _ _ _ _ _ _, verdict-of-run _ _ _ _ _ _)))
+returns-2 c =
+    let e = c .before .before .before .before .before .before .run-cycles .ensures in
+    (e, (trace-of-run _ _ _ _ _ _, (run-is-steps _ _ _ _ _ _, verdict-means _ _ _ _ _ _ _ e)))
 
 pub run-spec : {M : Type 1} → statement M
 run-spec =

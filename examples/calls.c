@@ -55,7 +55,8 @@ int main(void) {
     printf("verdicts");
     for (i = 0; i < LENGTH(verdicts); i++)
         printf(" %d", verdicts[i]);
-    printf("\ncycles %" PRIu32 ", rejected %" PRIu32 ", verdict %s\n", cycles, rejected, verdict == 0 ? "accepted" : "rejected");
+    printf("\ncycles %" PRIu32 ", rejected %" PRIu32 ", ", cycles, rejected);
+    printf("verdict %s\n", verdict == 0 ? "accepted" : "rejected");
 
     /* a vertex without a name */
     accepted("build", ludo_build(bytes("V\n"), 2, made, LENGTH(made), &gates));

@@ -1,6 +1,7 @@
 -- The pages of the two programs. A refusal of what a page needs is the page's text; a page itself is refused only
 -- where it does not fit into the buffer. Which cycles are rejected is said by paths. Assumes nothing.
 use mathlib.Core.Path.{_≡_}
+use mathlib.Core.Logic.{_⊎_}
 use mathlib.Core.Bool.{cond}
 use mathlib.Core.List.{List, [], _++_}
 use Prim.Native.Nat.{ℕ, _+_, _≤_}
@@ -51,7 +52,7 @@ inputsOf g = 1 + length (g .signals)
 
 -- the cycles that some setting and some rejecting path condemn, and the sum
 unfoldable pub judgement : Graph → List Bytes → Bytes
-judgement g cycles = let bytes = verdicts g [] cycles in report bytes (length cycles) (countRejected g cycles) (verdictOf bytes)
+judgement g cycles = let judged = verdicts g [] cycles in report judged (length cycles) (countRejected g cycles) (verdictOf judged)
 
 -- trace lines count from 1 after `T`
 unfoldable pub tracePage : Bytes → Graph → Bytes
@@ -65,15 +66,14 @@ monitorText input =
     (graphPage (graphOf (graphPart input)) (tracePage (tracePart input)))
     (refusedLine (inputRefusal TooLong))
 
--- THE CLAIM on the verdict of a page that is no refusal. After the lines of the rejected cycles the page ends with `sum`,
--- the cycles, how many are rejected, and a word, which is `rejected` exactly if some setting and some rejecting path
--- condemn one of the cycles
+-- THE CLAIM on the verdict of an input that is not refused. After the lines of the rejected cycles its page has `sum`,
+-- the cycles, how many are rejected, and a word: `rejected`, and some setting and some rejecting path condemn one of the
+-- cycles, or `accepted`, and there are none such
 pub record SumMeans (g : Graph) (cycles : List Bytes) (page : Bytes) : Type 0 where
   pub word : Bytes
   pub whole : page ≡ joined (cycleLine (verdicts g [] cycles)) (length cycles)
       ++ (bytes "sum" ++ (field (length cycles) ++ (field (countRejected g cycles) ++ word)))
-  pub rejected : SomeRejected g [] cycles → word ≡ bytes "\trejected\n"
-  pub accepted : (SomeRejected g [] cycles → ⊥) → word ≡ bytes "\taccepted\n"
+  pub told : ((word ≡ bytes "\trejected\n") × SomeRejected g [] cycles) ⊎ ((word ≡ bytes "\taccepted\n") × (SomeRejected g [] cycles → ⊥))
 
 abbrev pub JudgementMeans : Bytes → Type 0
 JudgementMeans input =

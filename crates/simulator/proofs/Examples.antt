@@ -75,7 +75,7 @@ runs-rejected : runOf wire (49 ∷ 10 ∷ 48 ∷ 10 ∷ 49 ∷ 10 ∷ []) (9 ∷
 unfolding runOf runAs ranTo runCycles runCycle verdictByte verdictOf runCheck isShort faultOf faultFrom fitsLine lineCount cyclesOf cyclesFrom isBit hasRoom counted isRejected hasLatches hasValues isNetlist headerOk outputOk latchOk gateOk isWithin isFree freeCount each lane numberOf wordOf literalOf variableOf isInverted outputWord latchesAfter valuesAfter cycleWords outputOf nextOf nextsOf valuesOf front gatesOf gateOf bitOf litOf signed
 runs-rejected = refl
 
--- neither the tally's past nor the surplus is part of a verdict: 1 after it is accepted, and so is no cycle at all
+-- on that tally, with a surplus byte that is not 0: a run on 1 is accepted, and so is a run of no cycle
 runs-accepted : runOf wire (49 ∷ 10 ∷ []) [] (9 ∷ 9 ∷ []) (9 ∷ 1 ∷ []) (tally 8 4)
     ≡ runEnd (record { outcome = run.Done Accepted; tally = tally 9 4 }) [] (0 ∷ 18446744073709551615 ∷ []) (0 ∷ 1 ∷ [])
 unfolding runOf runAs ranTo runCycles runCycle verdictByte verdictOf runCheck isShort faultOf faultFrom fitsLine lineCount cyclesOf cyclesFrom isBit hasRoom counted isRejected hasLatches hasValues isNetlist headerOk outputOk latchOk gateOk isWithin isFree freeCount each lane numberOf wordOf literalOf variableOf isInverted outputWord latchesAfter valuesAfter cycleWords outputOf nextOf nextsOf valuesOf front gatesOf gateOf bitOf litOf signed

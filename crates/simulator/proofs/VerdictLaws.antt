@@ -15,7 +15,6 @@ use Rattle.calls.specs.declared.tally.Tally.{Tally}
 use Rattle.calls.specs.Tallies.{isRejected}
 use Rattle.calls.specs.Refusals.{runCheck}
 use Rattle.trace.specs.Traces.{cyclesOf}
-use Rattle.simulator.specs.declared.outcome.Verdict.{Verdict}
 use Rattle.simulator.specs.declared.outcome.Verdict.the-variants.{Accepted, Rejected}
 use Rattle.simulator.specs.Run.{verdictByte, verdictOf, RunEnd, runOf}
 use Rattle.simulator.specs.Claims.{VerdictOfRun, VerdictMeans}
@@ -39,7 +38,7 @@ unfolding verdictOf
 verdict-none [] h = refl
 verdict-none (b ∷ bs) h = rw (h 0 (omega arith)) (verdict-none bs (λ k l. h (suc k) (omega arith)))
 
-accepted-rejected : Accepted ≡ Rejected → ⊥
+pub accepted-rejected : Accepted ≡ Rejected → ⊥
 accepted-rejected e = let z : _≡_ {A = ℕ} 0 1 = cc in omega arith
 
 -- ---- of output words: all their bytes are 0, or one is 1

@@ -78,7 +78,7 @@ pub fn run(
     check_words(&netlist, latches, values)?;
     check_buffer(verdicts, cycles.len())?;
     check_tally(tally, cycles.len())?;
-    // Document 02, No. 2: "A run's verdict is `rejected` exactly when any cycle of that run was."
+    // Document 02, No. 2: "a run's verdict is `rejected` exactly when any cycle of that run was."
     let mut verdict = Verdict::Accepted;
     for (cycle, byte) in cycles.into_iter().zip(verdicts) {
         let word = one_cycle(&netlist, cycle, latches, values, tally);

@@ -1,9 +1,7 @@
 -- The verdict of the paths' bytes is rejected exactly if some setting and some rejecting path condemn one of the cycles. Assumes nothing.
-use Prim.Native.Nat.{ℕ}
 use mathlib.Core.Path.{_≡_, refl, ap, subst, sym, _∙_}
 use mathlib.Core.Bool.{Bool, true, false, cond}
 use mathlib.Core.List.{List, [], _∷_, _++_, append-assoc}
-use native.Mathlib.Omega.{arith}
 use Rattle.assertion.specs.Graph.{Graph, Cycle}
 use Rattle.assertion.specs.Paths.{isRejected, verdicts}
 use Rattle.assertion.specs.Paths as paths
@@ -11,6 +9,7 @@ use Rattle.assertion.proofs.PathLaws.{paths-mean}
 use Rattle.simulator.specs.declared.outcome.Verdict.{Verdict}
 use Rattle.simulator.specs.declared.outcome.Verdict.the-variants.{Rejected}
 use Rattle.simulator.specs.Run.{verdictOf}
+use Rattle.simulator.proofs.VerdictLaws.{accepted-rejected}
 use Rattle.demand.specs.Demand.{SomeRejected, VerdictOfPaths}
 
 module _ (g : Graph) where
@@ -39,7 +38,7 @@ module _ (g : Graph) where
 
   some : (seen cs : List Cycle) → judged seen cs ≡ Rejected → SomeRejected g seen cs
   unfolding verdictOf
-  some seen [] e = let z : _≡_ {A = ℕ} 0 1 = cc in absurd (omega arith)
+  some seen [] e = absurd (accepted-rejected e)
   some seen (c ∷ cs) e = by (isRejected g (seen ++ (c ∷ []))) refl (some (seen ++ (c ∷ [])) cs)
     where
       by : (b : Bool) → isRejected g (seen ++ (c ∷ [])) ≡ b → (judged (seen ++ (c ∷ [])) cs ≡ Rejected → SomeRejected g (seen ++ (c ∷ [])) cs) → SomeRejected g seen (c ∷ cs)

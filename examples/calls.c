@@ -1,5 +1,5 @@
 /* Ludopoplar from C: builds the monitor of a small graph, writes its AIGER file and reads it back, runs a
-   trace on it, and shows a refusal. At the repository's root:
+   trace on it, tells its rejections in a million, and shows a refusal. At the repository's root:
 
      cc -std=c99 -Iinclude -o calls examples/calls.c target/staticlib/libludopoplar.a && ./calls */
 #include <inttypes.h>
@@ -31,7 +31,7 @@ static int accepted(const char *call, uint64_t code) {
 static const uint8_t *bytes(const char *text) { return (const uint8_t *)text; }
 
 int main(void) {
-    uint64_t gates = 0, length = 0, numbers = 0, verdict = 0;
+    uint64_t gates = 0, length = 0, numbers = 0, verdict = 0, whole = 0, remainder = 0;
     uint32_t cycles = 0, rejected = 0;
     size_t i;
 
@@ -57,6 +57,10 @@ int main(void) {
         printf(" %d", verdicts[i]);
     printf("\ncycles %" PRIu32 ", rejected %" PRIu32 ", ", cycles, rejected);
     printf("verdict %s\n", verdict == 0 ? "accepted" : "rejected");
+
+    if (!accepted("per million", ludo_per_million(cycles, rejected, &whole, &remainder)))
+        return 1;
+    printf("rejected in a million %" PRIu64 ", remainder %" PRIu64 "\n", whole, remainder);
 
     /* a vertex without a name */
     accepted("build", ludo_build(bytes("V\n"), 2, made, LENGTH(made), &gates));

@@ -1,5 +1,5 @@
 /* Ludopoplar: monitor circuits of assertion graphs. Builds the circuit of a graph text, writes and reads
-   circuits as AIGER files, and runs them cycle by cycle.
+   circuits as AIGER files, runs them cycle by cycle, and tells the rejected cycles in a million.
 
    Link with libludopoplar.a (x86-64 Linux). It needs memcpy and memset of the C library and nothing else.
 
@@ -34,9 +34,11 @@
        15     its    trace: wrong line; a step's cycle is line 1
        16     0      the numbers are no netlist
        17     0      the tally would pass 4,294,967,295
+       21     0      tally: no cycle, or more rejected than cycles
 
      Lines count from 1; the first faulty line decides, and in it the lower number. Build checks 1, the lines,
-     10, 11, 12; read 1, the lines, 12; write and start 16, 12; step 16, 15, 12, 17; run 1, then as step.
+     10, 11, 12; read 1, the lines, 12; write and start 16, 12; step 16, 15, 12, 17; run 1, then as step; per
+     million 21.
 
    Netlist: uint16_t numbers, 5 + 2L + 1 + 2A of them, at most 8,194
      M I L O A               highest variable, inputs, latches, outputs, AND gates
@@ -100,6 +102,11 @@ uint64_t ludo_step(const uint16_t *net, size_t net_len, const uint8_t *cycle, si
    accepted. */
 uint64_t ludo_run(const uint16_t *net, size_t net_len, const uint8_t *trace, size_t trace_len, uint64_t *latches, size_t latches_len,
                   uint64_t *values, size_t values_len, uint8_t *verdicts, size_t verdicts_len, uint32_t *cycles, uint32_t *rejected, uint64_t *verdict);
+
+/* Tells the rejected cycles of a tally in a million of its cycles: `*whole` is the whole part and `*remainder`
+   the remainder of rejected * 1,000,000 / cycles. So rejected * 1,000,000 = *whole * cycles + *remainder, with
+   *remainder below cycles and *whole at most 1,000,000; nothing is rounded. */
+uint64_t ludo_per_million(uint32_t cycles, uint32_t rejected, uint64_t *whole, uint64_t *remainder);
 
 #ifdef __cplusplus
 }

@@ -21,6 +21,9 @@ use Rattle.aiger_read.specs.Read as read
 use Rattle.calls.specs.declared.refusal.Cause as simulator
 use Rattle.calls.specs.declared.refusal.Cause.the-variants as ran
 use Rattle.calls.specs.Refusals as runs
+use Rattle.rate.specs.declared.Cause as rate
+use Rattle.rate.specs.declared.Cause.the-variants as rated
+use Rattle.rate.specs.Rates as rates
 use Rattle.ludopoplar.specs.Codes.{codeOf}
 use Rattle.ludopoplar.specs.Claims.{Numbered}
 
@@ -67,6 +70,10 @@ starts (ran.WrongLine line) = omega arith
 starts ran.NotNetlist = omega arith
 starts ran.FullTally = omega arith
 
+rates-numbered : (cause : rate.Cause) → 1 ≤ rates.refusalOf cause .number
+unfolding rates.refusalOf
+rates-numbered rated.NoRate = omega arith
+
 number-back : (r : Refusal) → r .line < 4294967296 → codeOf r / 4294967296 ≡ r .number
 unfolding codeOf
 number-back r h = omega arith
@@ -82,6 +89,7 @@ numbered =
       write-numbered = writes;
       read-numbered = reads;
       run-numbered = starts;
+      rate-numbered = rates-numbered;
       number-told = number-back;
       line-told = line-back;
     }

@@ -1,7 +1,7 @@
--- No refusal has the number 0, so a call's code is 0 exactly if it is accepted; and a code tells number and line.
--- Assumes nothing.
+-- What the contracts of the C interface claim. Assumes nothing.
 use mathlib.Core.Path.{_≡_}
-use Prim.Native.Nat.{_≤_, _<_, _/_, _%_}
+use mathlib.Core.Logic.{_⊎_}
+use Prim.Native.Nat.{ℕ, _*_, _^_, _≤_, _<_, _/_, _%_}
 use Rattle.text.specs.declared.Refusal.{Refusal}
 use Rattle.builder.specs.declared.Cause as builder
 use Rattle.builder.specs.Build as build
@@ -11,13 +11,27 @@ use Rattle.aiger_read.specs.declared.Cause as aigerRead
 use Rattle.aiger_read.specs.Read as read
 use Rattle.calls.specs.declared.refusal.Cause as simulator
 use Rattle.calls.specs.Refusals as runs
+use Rattle.rate.specs.declared.Cause as rate
+use Rattle.rate.specs.Rates as rates
+use Rattle.rate.specs.Claims.{Division}
 use Rattle.ludopoplar.specs.Codes.{codeOf}
+use Rattle.ludopoplar.specs.Rates.{RateCallEnd, rateCallEnd}
 
+-- ---- no refusal has the number 0, so a call's code is 0 exactly if it is accepted; and a code tells number and line
 pub record Numbered : Type 0 where
   pub build-numbered : (cause : builder.Cause) → 1 ≤ build.refusalOf cause .number
   pub write-numbered : (cause : aiger.Cause) → 1 ≤ write.refusalOf cause .number
   pub read-numbered : (cause : aigerRead.Cause) → 1 ≤ read.refusalOf cause .number
   pub run-numbered : (cause : simulator.Cause) → 1 ≤ runs.refusalOf cause .number
+  pub rate-numbered : (cause : rate.Cause) → 1 ≤ rates.refusalOf cause .number
   -- 4,294,967,296 is 2^32
   pub number-told : (r : Refusal) → r .line < 4294967296 → codeOf r / 4294967296 ≡ r .number
   pub line-told : (r : Refusal) → r .line < 4294967296 → codeOf r % 4294967296 ≡ r .line
+
+-- ---- document 02, No. 8, of a call that found this whole part and remainder and ended so
+pub record CallDivides (cycles rejected whole remainder : ℕ) (end : RateCallEnd) : Type 0 where
+  -- "no cycles, or rejected above cycles, is 21, line 0"; the results stay as they were
+  pub refused : (cycles ≡ 0) ⊎ (cycles < rejected) → end ≡ rateCallEnd (21 * 2 ^ 32) whole remainder
+  -- every other tally is accepted, and the results are those of the division
+  pub accepted : 0 < cycles → rejected ≤ cycles → end .code ≡ 0
+  pub division : 0 < cycles → rejected ≤ cycles → Division cycles rejected (end .whole) (end .remainder)

@@ -2,4 +2,5 @@
 pub mod Codes
 pub mod Circuits
 pub mod Runs
+pub mod Rates
 pub mod Claims

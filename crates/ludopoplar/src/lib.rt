@@ -1,5 +1,5 @@
-// The C interface: build, write, read, start, step and run as a static library has them. Each function calls
-// the one of its name and puts what that answers where C looks for it. It returns 0 where the call is accepted,
+// The C interface: build, write, read, start, step, run and per million as a static library has them. Each function
+// calls the one of its name and puts what that answers where C looks for it. It returns 0 where the call is accepted,
 // else number × 2^32 + line; results go through pointers, which a refusal leaves as they were. Knows nothing of
 // what the calls mean. Exports that code, results, tally and buffers are those that their definitions give.
 // `include/ludopoplar.h` declares these functions to C.
@@ -7,6 +7,7 @@ use aiger::Written;
 use aiger_read::ReadOutcome;
 use builder::Built;
 use calls::Tally;
+use rate::Rated;
 use simulator::RunOutcome;
 use simulator::StartOutcome;
 use simulator::StepOutcome;
@@ -15,8 +16,9 @@ use text::Refusal;
 ghost use mathlib.Core.Path.{_≡_};
 ghost use Rattle.ludopoplar.specs.Codes.{codeOf};
 ghost use Rattle.ludopoplar.specs.Circuits.{filled, buildCall, writeCall, readCall};
-ghost use Rattle.ludopoplar.specs.Claims.{Numbered};
+ghost use Rattle.ludopoplar.specs.Claims.{Numbered, CallDivides};
 ghost use Rattle.ludopoplar.specs.Runs.{verdictNumber, startCallEnd, startCall, stepCallEnd, stepCall, runCallEnd, runCall};
+ghost use Rattle.ludopoplar.specs.Rates.{rateCallEnd, rateCall};
 
 // A call that is accepted returns this.
 const ACCEPTED: u64 = 0;
@@ -171,5 +173,27 @@ pub extern "C" fn ludo_run(
             ACCEPTED
         }
         RunOutcome::Refused(cause) => code(cause.refusal()),
+    }
+}
+
+// Takes the rate of a tally.
+#[no_mangle]
+pub extern "C" fn ludo_per_million(
+    cycles: u32,
+    rejected: u32,
+    whole: &mut u64,
+    remainder: &mut u64,
+) -> u64
+    ensures { λ r. ⌜ rateCallEnd r (now (whole .exit)) (now (remainder .exit)) ≡ rateCall cycles rejected (now (whole .entry)) (now (remainder .entry)) ⌝ }
+    ensures divides { λ r. ⌜ CallDivides cycles rejected (now (whole .entry)) (now (remainder .entry)) (rateCallEnd r (now (whole .exit)) (now (remainder .exit))) ⌝ }
+{
+    let rated = rate::per_million(Tally { cycles, rejected });
+    match rated {
+        Rated::PerMillion(rate) => {
+            *whole = rate.whole as u64;
+            *remainder = rate.remainder as u64;
+            ACCEPTED
+        }
+        Rated::Refused(cause) => code(cause.refusal()),
     }
 }

@@ -4,18 +4,19 @@ use crate::bench::Bench;
 use crate::compare::{Call, Lengths, Memory, Mismatch, Name};
 use crate::random::Random;
 use crate::round_trip::write_and_read_back;
-use crate::{aigers, graphs, netlists, sequence, traces};
+use crate::{aigers, graphs, netlists, rates, sequence, traces};
 use reference::{formula_of_gates, Graph, Netlist, Tally};
 
 pub fn case(bench: &mut Bench) -> Result<(), Mismatch> {
-    match bench.random.below(20) {
+    match bench.random.below(21) {
         0..=6 => build(bench),
         7..=10 => read(bench),
         11..=12 => write(bench),
         13 => start(bench),
         14..=15 => step(bench),
         16..=17 => run(bench),
-        _ => sequence::sequence(bench),
+        18..=19 => sequence::sequence(bench),
+        _ => per_million(bench),
     }
 }
 
@@ -170,4 +171,9 @@ fn long_run(random: &mut Random) -> (Vec<u16>, Vec<u8>) {
     }
     let trace = traces::near_size_limit(random, inputs);
     (net, trace)
+}
+
+fn per_million(bench: &mut Bench) -> Result<(), Mismatch> {
+    let tally = rates::any(&mut bench.random);
+    rates::compare_rate(bench, tally)
 }

@@ -13,6 +13,7 @@ pub enum Name {
     Start,
     Step,
     Run,
+    PerMillion,
 }
 
 /// A call with what it reads: `bytes` is a graph, an AIGER text, a cycle or a trace.
@@ -31,6 +32,11 @@ impl Call {
 
     pub fn on_net(name: Name, net: Vec<u16>, bytes: Vec<u8>) -> Call {
         Call { name, net, bytes }
+    }
+
+    /// Of the memory's tally, which goes by value.
+    pub fn per_million() -> Call {
+        Call::on_bytes(Name::PerMillion, Vec::new())
     }
 }
 
@@ -78,8 +84,10 @@ pub struct Memory {
     pub values: Lent<u64>,
     pub verdicts: Lent<u8>,
     pub tally: Tally,
-    /// Gates, length, output word or verdict.
+    /// Gates, length, output word, verdict or whole part.
     pub answer: u64,
+    /// The second result of `PerMillion`; the other calls leave it.
+    pub remainder: u64,
 }
 
 impl Memory {
@@ -95,6 +103,7 @@ impl Memory {
                 rejected: random.word() as u32,
             },
             answer: random.word(),
+            remainder: random.word(),
         }
     }
 }
@@ -118,6 +127,7 @@ pub struct Mismatch(pub String);
 /// Makes the call twice, on memory of equal contents.
 pub fn compare(call: &Call, memory: Memory) -> Result<Outcome, Mismatch> {
     let mut lent_call = call.clone();
+    let tally = memory.tally;
     let (mut by_library, mut by_reference) = (memory.clone(), memory);
     let code = library(&mut lent_call, &mut by_library);
     let due = code_of(reference_call(call, &mut by_reference));
@@ -135,7 +145,7 @@ pub fn compare(call: &Call, memory: Memory) -> Result<Outcome, Mismatch> {
             number: (due >> 32) as u32,
             memory: by_reference,
         }),
-        false => Err(Mismatch(told(call, &by_reference, &differences))),
+        false => Err(Mismatch(told(call, tally, &by_reference, &differences))),
     }
 }
 
@@ -144,7 +154,7 @@ fn library(call: &mut Call, memory: &mut Memory) -> u64 {
     let latches = memory.latches.get_mut();
     let values = memory.values.get_mut();
     let Tally { cycles, rejected } = &mut memory.tally;
-    let answer = &mut memory.answer;
+    let (answer, remainder) = (&mut memory.answer, &mut memory.remainder);
     match call.name {
         Name::Build => raw::build(bytes, memory.net.get_mut(), answer),
         Name::Read => raw::read(bytes, memory.net.get_mut(), answer),
@@ -157,6 +167,7 @@ fn library(call: &mut Call, memory: &mut Memory) -> u64 {
                 net, bytes, latches, values, verdicts, cycles, rejected, answer,
             )
         }
+        Name::PerMillion => raw::per_million(*cycles, *rejected, answer, remainder),
     }
 }
 
@@ -177,6 +188,11 @@ fn reference_call(call: &Call, memory: &mut Memory) -> Result<(), Refusal> {
                 Verdict::Accepted => 0,
                 Verdict::Rejected => 1,
             }
+        }
+        Name::PerMillion => {
+            let rate = reference::per_million(*tally)?;
+            memory.remainder = rate.remainder.into();
+            rate.whole.into()
         }
     };
     memory.answer = answer;
@@ -200,15 +216,16 @@ fn memory_differences(found: &Memory, due: &Memory) -> String {
     if found.tally != due.tally {
         writeln!(differences, "{:?}, due {:?}", found.tally, due.tally).unwrap();
     }
-    if found.answer != due.answer {
-        writeln!(
-            differences,
-            "answer {:#x}, due {:#x}",
-            found.answer, due.answer
-        )
-        .unwrap();
-    }
+    differences += &word_difference("answer", found.answer, due.answer);
+    differences += &word_difference("remainder", found.remainder, due.remainder);
     differences
+}
+
+fn word_difference(what: &str, found: u64, due: u64) -> String {
+    match found == due {
+        true => String::new(),
+        false => format!("{what} {found:#x}, due {due:#x}\n"),
+    }
 }
 
 fn buffer_difference<T: PartialEq + Debug>(what: &str, found: &Lent<T>, due: &Lent<T>) -> String {
@@ -226,14 +243,15 @@ fn buffer_difference<T: PartialEq + Debug>(what: &str, found: &Lent<T>, due: &Le
     }
 }
 
-fn told(call: &Call, memory: &Memory, differences: &str) -> String {
+fn told(call: &Call, tally: Tally, memory: &Memory, differences: &str) -> String {
     format!(
-        "call: {:?}\nnumbers lent: {:?}\nbytes lent ({}): \"{}\"\n\
+        "call: {:?}\nnumbers lent: {:?}\nbytes lent ({}): \"{}\"\nbefore: {:?}\n\
          buffer lengths: numbers {}, text {}, latches {}, values {}, verdicts {}\n{}",
         call.name,
         call.net,
         call.bytes.len(),
         escaped(&call.bytes),
+        tally,
         memory.net.length,
         memory.text.length,
         memory.latches.length,

@@ -5,13 +5,14 @@ use std::collections::BTreeMap;
 use std::fmt;
 
 /// Every number each call can be refused with.
-const REFUSALS: [(Name, &[u32]); 6] = [
+const REFUSALS: [(Name, &[u32]); 7] = [
     (Name::Build, &[1, 2, 3, 4, 5, 6, 7, 8, 9, 10, 11, 12]),
     (Name::Read, &[1, 12, 13, 14]),
     (Name::Write, &[12, 16]),
     (Name::Start, &[12, 16]),
     (Name::Step, &[12, 15, 16, 17]),
     (Name::Run, &[1, 12, 15, 16, 17]),
+    (Name::PerMillion, &[21]),
 ];
 
 #[derive(Default)]

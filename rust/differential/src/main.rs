@@ -12,6 +12,7 @@ mod damage;
 mod graphs;
 mod netlists;
 mod random;
+mod rates;
 mod round_trip;
 mod sequence;
 mod sweep;

@@ -1,9 +1,11 @@
 //! Demand 3: an accepted graph, an accepted start, and a list of steps and runs
 //! with latch words and tally handed on, refused calls included; its tally, its
-//! verdict bytes and the verdict of each run against the paths of the graph.
+//! verdict bytes and the verdict of each run against the paths of the graph; and
+//! the rate of the tally it leaves.
 
 use crate::bench::Bench;
 use crate::compare::{Call, Lengths, Memory, Mismatch, Name, Outcome};
+use crate::rates::compare_rate;
 use crate::round_trip::write_and_read_back;
 use crate::{graphs, netlists, traces};
 use reference::{rejected_cycles, Graph, Tally};
@@ -44,6 +46,7 @@ pub fn sequence(bench: &mut Bench) -> Result<(), Mismatch> {
             }
         }
         thread.check_paths(bench)?;
+        compare_rate(bench, thread.tally)?;
     }
     Ok(())
 }

@@ -1,7 +1,9 @@
-//! Every change of one byte or one number in a few small inputs.
+//! Every change of one byte or one number in a few small inputs, and every pair of
+//! some numbers as a tally.
 
 use crate::bench::Bench;
 use crate::compare::{Call, Lengths, Memory, Mismatch, Name};
+use crate::rates;
 use reference::Tally;
 
 /// Has records of every kind, operators of every strength, both marks.
@@ -38,6 +40,10 @@ pub fn sweep(bench: &mut Bench) -> Result<usize, Mismatch> {
             sweep_call(bench, Call::on_net(name, net.clone(), bytes.to_vec()))?;
             count += 1;
         }
+    }
+    for tally in rates::pairs() {
+        rates::compare_rate(bench, tally)?;
+        count += 1;
     }
     Ok(count)
 }

@@ -6,8 +6,8 @@
 
 pub mod raw;
 
-/// Why a call was turned down: a number of document 01's table, and the line at
-/// fault (0 where there is none).
+/// Why a call was turned down: a number of document 01's table or of document 02's
+/// answers, and the line at fault (0 where there is none).
 #[derive(Clone, Copy, Debug, PartialEq, Eq)]
 pub struct Refusal {
     pub number: u32,
@@ -39,6 +39,14 @@ pub struct Tally {
 pub enum Verdict {
     Accepted,
     Rejected,
+}
+
+/// Rejections in a million cycles: rejected × 1,000,000 = whole × cycles + remainder,
+/// with a remainder under cycles.
+#[derive(Clone, Copy, Debug, PartialEq, Eq)]
+pub struct Rate {
+    pub whole: u64,
+    pub remainder: u64,
 }
 
 /// Builds the monitor circuit of a graph text; returns the number of its gates.
@@ -118,4 +126,17 @@ pub fn run(
         0 => Verdict::Accepted,
         _ => Verdict::Rejected,
     })
+}
+
+/// Works out a tally's rejections in a million cycles; refused if it has no cycles, or
+/// more rejected than cycles.
+pub fn per_million(tally: Tally) -> Result<Rate, Refusal> {
+    let (mut whole, mut remainder) = (0, 0);
+    Refusal::check(raw::per_million(
+        tally.cycles,
+        tally.rejected,
+        &mut whole,
+        &mut remainder,
+    ))?;
+    Ok(Rate { whole, remainder })
 }

@@ -65,10 +65,17 @@ mod c {
             rejected: *mut u32,
             verdict: *mut u64,
         ) -> u64;
+
+        pub fn ludo_per_million(
+            cycles: u32,
+            rejected: u32,
+            whole: *mut u64,
+            remainder: *mut u64,
+        ) -> u64;
     }
 }
 
-// SAFETY, of all six: every pointer comes from a reference or a slice that lives
+// SAFETY, of all seven: every pointer comes from a reference or a slice that lives
 // through the call, with that slice's own length; the exclusive borrows keep what
 // the library writes apart from all else; the library keeps no pointer.
 
@@ -176,4 +183,8 @@ pub fn run(
             verdict,
         )
     }
+}
+
+pub fn per_million(cycles: u32, rejected: u32, whole: &mut u64, remainder: &mut u64) -> u64 {
+    unsafe { c::ludo_per_million(cycles, rejected, whole, remainder) }
 }

@@ -1,7 +1,9 @@
-//! The safe calls: document 01's graph G, the words of a start, the verdict of each run, empty
-//! slices, refusals.
+//! The safe calls: document 01's graph G, the words of a start, the verdict of each run, the rate
+//! of each tally, empty slices, refusals.
 
-use ludopoplar::{build, read, run, start, step, write, Refusal, Tally, Verdict};
+use ludopoplar::{
+    build, per_million, raw, read, run, start, step, write, Rate, Refusal, Tally, Verdict,
+};
 
 const G: &[u8] = b"S\tp\nS\tq\nV\ta\nV\tb\nE\ta\tb\tt\tp\tq\n";
 const FILE_OF_G: &[u8] = b"aag 12 3 2 1 7\n2\n4\n6\n8 18\n10 25\n24\n\
@@ -102,6 +104,59 @@ fn verdict_of_each_run() {
     );
 }
 
+/// Document 02, No. 8: tallies as cycles and rejected, rates as whole part and remainder.
+const RATES: [((u32, u32), (u64, u64)); 13] = [
+    ((1, 0), (0, 0)),
+    ((1, 1), (1_000_000, 0)),
+    ((2, 1), (500_000, 0)),
+    ((3, 1), (333_333, 1)),
+    ((3, 2), (666_666, 2)),
+    ((7, 3), (428_571, 3)),
+    ((9, 2), (222_222, 2)),
+    ((1_000_000, 1), (1, 0)),
+    ((1_000_001, 1), (0, 1_000_000)),
+    ((524_288, 17), (32, 222_784)),
+    ((4_294_967_295, 1), (0, 1_000_000)),
+    ((4_294_967_295, 4_294_967_294), (999_999, 4_293_967_295)),
+    ((4_294_967_295, 4_294_967_295), (1_000_000, 0)),
+];
+const WITHOUT_RATE: [(u32, u32); 3] = [(0, 0), (0, 1), (5, 6)];
+
+#[test]
+fn per_million_of_each_tally() {
+    for ((cycles, rejected), (whole, remainder)) in RATES {
+        let rate = per_million(Tally { cycles, rejected });
+        assert_eq!(rate, Ok(Rate { whole, remainder }), "{cycles}, {rejected}");
+    }
+    let refused = Refusal {
+        number: 21,
+        line: 0,
+    };
+    for (cycles, rejected) in WITHOUT_RATE {
+        let rate = per_million(Tally { cycles, rejected });
+        assert_eq!(rate, Err(refused), "{cycles}, {rejected}");
+    }
+}
+
+#[test]
+fn refused_per_million_leaves_both_results() {
+    for (cycles, rejected) in WITHOUT_RATE {
+        let (mut whole, mut remainder) = (77, 78);
+        let code = raw::per_million(cycles, rejected, &mut whole, &mut remainder);
+        assert_eq!((code, whole, remainder), (21 << 32, 77, 78));
+    }
+}
+
+#[test]
+fn per_million_of_a_run() {
+    let (_, tally) = runs_of_g([b"110\n111\n010\n"]);
+    let due = Rate {
+        whole: 333_333,
+        remainder: 1,
+    };
+    assert_eq!(per_million(tally), Ok(due));
+}
+
 /// A netlist of one input and a latch for each reset, whose output is the input.
 fn latches_with(resets: &[u16]) -> Vec<u16> {
     let count = resets.len() as u16;
@@ -180,6 +235,6 @@ fn refusals_leave_all_as_it_was() {
     );
     assert_eq!((latches, values, tally), ([5; 2], [6; 13], before));
     let mut length = 77;
-    let code = ludopoplar::raw::read(FILE_OF_G, &mut [0; 23], &mut length);
+    let code = raw::read(FILE_OF_G, &mut [0; 23], &mut length);
     assert_eq!((code, length), (12 << 32, 77));
 }

@@ -1,5 +1,5 @@
-//! Document 01, as No. 2 of document 02 changes it, once more in plain safe Rust,
-//! written from their sentences alone.
+//! Document 01, as No. 2 of document 02 changes it, and No. 8 of document 02, once more
+//! in plain safe Rust, written from their sentences alone.
 //!
 //! Nothing here is proved and nothing is meant to be fast: each module follows
 //! the documents' wording closely enough to be read beside it. The proved
@@ -12,6 +12,7 @@ mod graph;
 mod lines;
 mod netlist;
 mod paths;
+mod rate;
 mod refusal;
 mod simulator;
 #[cfg(test)]
@@ -23,5 +24,6 @@ pub use formula::{Formula, Operator};
 pub use graph::{Atom, Edge, Graph};
 pub use netlist::{Gate, Header, Latch, Literal, Netlist, Reset, Variable};
 pub use paths::rejected_cycles;
+pub use rate::{per_million, Rate};
 pub use refusal::{Cause, Refusal};
 pub use simulator::{run, start, step, Tally, Verdict};

@@ -1,6 +1,7 @@
 //! When a call is turned down.
 
-/// The causes of document 01's table; each one's number is its discriminant.
+/// The causes of document 01's table, then those that document 02 adds; each one's
+/// number is its discriminant.
 #[derive(Clone, Copy, Debug, PartialEq, Eq, PartialOrd, Ord)]
 #[repr(u8)]
 pub enum Cause {
@@ -21,6 +22,7 @@ pub enum Cause {
     CycleWrong = 15,
     NoNetlist = 16,
     TallyFull = 17,
+    NoRate = 21,
 }
 
 /// "Every refusal returns its number and a line"; line 0 where no line is at fault.

@@ -1,5 +1,5 @@
 /* Ludopoplar: monitor circuits of assertion graphs. Builds the circuit of a graph text, writes and reads
-   circuits as AIGER files, runs them cycle by cycle, and tells the rejected cycles in a million.
+   circuits as AIGER files, runs them cycle by cycle, and tells rejections in a million cycles.
 
    Link with libludopoplar.a (x86-64 Linux). It needs memcpy and memset of the C library and nothing else.
 
@@ -103,9 +103,9 @@ uint64_t ludo_step(const uint16_t *net, size_t net_len, const uint8_t *cycle, si
 uint64_t ludo_run(const uint16_t *net, size_t net_len, const uint8_t *trace, size_t trace_len, uint64_t *latches, size_t latches_len,
                   uint64_t *values, size_t values_len, uint8_t *verdicts, size_t verdicts_len, uint32_t *cycles, uint32_t *rejected, uint64_t *verdict);
 
-/* Tells the rejected cycles of a tally in a million of its cycles: `*whole` is the whole part and `*remainder`
-   the remainder of rejected * 1,000,000 / cycles. So rejected * 1,000,000 = *whole * cycles + *remainder, with
-   *remainder below cycles and *whole at most 1,000,000; nothing is rounded. */
+/* Rejections in a million cycles, from a tally: `*whole` is the whole part and `*remainder` the remainder of
+   rejected * 1,000,000 / cycles. So rejected * 1,000,000 = *whole * cycles + *remainder, with *remainder below
+   cycles and *whole at most 1,000,000; nothing is rounded. */
 uint64_t ludo_per_million(uint32_t cycles, uint32_t rejected, uint64_t *whole, uint64_t *remainder);
 
 #ifdef __cplusplus

@@ -28,7 +28,7 @@ pub record Numbered : Type 0 where
   pub number-told : (r : Refusal) → r .line < 4294967296 → codeOf r / 4294967296 ≡ r .number
   pub line-told : (r : Refusal) → r .line < 4294967296 → codeOf r % 4294967296 ≡ r .line
 
--- ---- document 02, No. 8, of a call that found this whole part and remainder and ended so
+-- ---- document 02, No. 8, of a call that ended so, where whole and remainder stood behind its pointers before
 pub record CallDivides (cycles rejected whole remainder : ℕ) (end : RateCallEnd) : Type 0 where
   -- "no cycles, or rejected above cycles, is 21, line 0"; the results stay as they were
   pub refused : (cycles ≡ 0) ⊎ (cycles < rejected) → end ≡ rateCallEnd (21 * 2 ^ 32) whole remainder

@@ -18,7 +18,7 @@ use Rattle.simulator.specs.Step.{StepEnd, stepOf}
 use Rattle.simulator.specs.Run.{RunEnd, runOf}
 use Rattle.ludopoplar.specs.Codes.{acceptedCode, codeOf}
 
--- the tally behind two pointers
+-- the tally of two numbers
 abbrev pub tallyOf : ℕ → ℕ → Tally
 tallyOf cycles rejected = record { cycles = cycles; rejected = rejected }
 

@@ -1,7 +1,8 @@
 // The C interface: build, write, read, start, step, run and per million as a static library has them. Each function
 // calls the one of its name and puts what that answers where C looks for it. It returns 0 where the call is accepted,
-// else number × 2^32 + line; results go through pointers, which a refusal leaves as they were. Knows nothing of
-// what the calls mean. Exports that code, results, tally and buffers are those that their definitions give.
+// else number × 2^32 + line; results go through pointers, which a refusal leaves as they were. Computes nothing
+// itself. Exports that code, results, tally and buffers are those that their definitions give, and of a rate that
+// its results are those of a division: the clause `divides` of `ludo_per_million`.
 // `include/ludopoplar.h` declares these functions to C.
 use aiger::Written;
 use aiger_read::ReadOutcome;

@@ -1,7 +1,6 @@
 -- Rates of tallies, worked with the numbers written out. Assumes nothing.
 use Prim.Native.Nat.{ℕ}
 use mathlib.Core.Path.{_≡_, refl}
-use Rattle.calls.specs.declared.tally.Tally.{Tally}
 use Rattle.rate.specs.declared.Cause.the-variants.{NoRate}
 use Rattle.rate.specs.declared.Rated.{Rated}
 use Rattle.rate.specs.declared.Rated.the-variants.{PerMillion, Refused}

@@ -1,4 +1,4 @@
-// Rejections in a million cycles, from a tally: the whole part and the remainder, as a paper prints them. Knows
+// Rejections in a million cycles, from a tally, for a paper to print: whole part and remainder, nothing rounded. Knows
 // nothing of netlists and graphs, nor of where the tally comes from. Exports that whole part and remainder are those
 // of a division: the clause `divides` of `per_million`.
 use calls::Tally;
@@ -38,7 +38,7 @@ impl Cause {
     }
 }
 
-// The rejected cycles of a tally in a million of its cycles. The product is below 2^52.
+// Rejections in a million cycles. The product is below 2^52.
 pub fn per_million(tally: Tally) -> Rated
     ensures { λ r. ⌜ r ≡ rateOf tally ⌝ }
     ensures divides { λ r. ⌜ Divides tally r ⌝ }

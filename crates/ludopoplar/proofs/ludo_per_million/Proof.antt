@@ -1,7 +1,8 @@
 -- `ludo_per_million` meets its contract: `per_million` answers what `rateOf` gives, and each case of the answer fixes
 -- code and results. Assumes nothing.
 use borrow.Author.Needs.{needs}
-use Rattle.ludopoplar.proofs.RateLaws.{ends-rated, ends-refused}
+use Rattle.ludopoplar.specs.Rates.{rateAs}
+use Rattle.ludopoplar.proofs.RateLaws.{ends}
 use Rattle.ludopoplar.proofs.ludo_per_million.Statement.{statement}
 use Rattle.ludopoplar.proofs.ludo_per_million.Tie as tie
 
@@ -27,16 +28,19 @@ code-requires : tie.Need-code-requires
 code-requires c κs = tt
 
 returns : tie.Need-returns
+unfolding rateAs
 returns c =
     let told = c .before .before .before in
     let called = told .before .before in
-    ends-rated _ _ _ _ _ _ (called .per-million .ensures .0) (told .rated .given .1)
+    ends _ _ _ _ _ (called .per-million .ensures .1) (called .per-million .ensures .0) _ (rw (told .rated .given .1))
 
 returns-2 : tie.Need-returns-2
+unfolding rateAs
 returns-2 c =
     let told = c .before .before .before in
     let called = told .before .before in
-    ends-refused _ _ _ _ _ _ _ (called .per-million .ensures .0) (told .rated2 .given .1) (rw (c .code .ensures, c .before .refusal .ensures))
+    ends _ _ _ _ _ (called .per-million .ensures .1) (called .per-million .ensures .0) _
+    (rw (told .rated2 .given .1, c .code .ensures, c .before .refusal .ensures))
 
 pub ludo-per-million-spec : {M : Type 1} → statement M
 ludo-per-million-spec =

@@ -1,6 +1,5 @@
 -- `rate::Cause::refusal` meets its contract: there is one cause. Assumes nothing.
 use mathlib.Core.Path.{_≡_, refl}
-use Rattle.text.specs.declared.Refusal.{Refusal}
 use Rattle.rate.specs.declared.Cause.{Cause}
 use Rattle.rate.specs.declared.Cause.the-variants.{NoRate}
 use Rattle.rate.specs.Rates.{refusalOf}

@@ -1,5 +1,6 @@
 /* Ludopoplar: monitor circuits of assertion graphs. Builds the circuit of a graph text, writes and reads
-   circuits as AIGER files, runs them cycle by cycle, and tells rejections in a million cycles.
+   circuits as AIGER files, runs them cycle by cycle, tells rejections in a million cycles, and finds the line
+   that was rejected first in the two traces of a session.
 
    Link with libludopoplar.a (x86-64 Linux). It needs memcpy and memset of the C library and nothing else.
 
@@ -7,7 +8,8 @@
      The library keeps nothing, allocates nothing and has no state: all memory is the caller's, and is used
      only during the call. Calls on different memory may run in different threads.
      Every length is a number of elements, not of bytes. Each pointer must be non-null and aligned for its
-     type, also where its length is 0. Buffers and result pointers of one call must not overlap.
+     type, also where its length is 0. What a call writes, buffer, tally or result, must not overlap anything
+     else that is lent to it; what is only read may be lent twice.
      The tally and what is lent to be read must be initialised; buffers that are only filled need not be.
      A call fills a buffer from its start; where the buffer is longer than needed, the rest stays as it was.
      ludo_build takes up to 200 KB of stack, for deep formulas; the other calls take under 4 KB.
@@ -15,6 +17,7 @@
    Return code
      0 where the call is accepted. Else the call is refused, and the code is number * 2^32 + line, which
      LUDO_NUMBER and LUDO_LINE take apart. A refusal leaves every buffer, tally and result as it was.
+     ludo_broken_line is never refused: every call of it returns 0 and writes its three results.
 
       number  line   cause
         1     0      text too long: graph over 32,768 bytes, AIGER over 65,536, trace over 1,048,576
@@ -31,14 +34,16 @@
        12     0      a buffer is too short
        13     its    AIGER: line of wrong shape, missing or extra
        14     its    AIGER: line of right shape that breaks order or limits
-       15     its    trace: wrong line; a step's cycle is line 1
+       15     its    trace: wrong line, counted in its own trace; a step's cycle is line 1
        16     0      the numbers are no netlist
        17     0      the tally would pass 4,294,967,295
        21     0      tally: no cycle, or more rejected than cycles
+       25     0      verdicts: not one byte for each line of their trace, or a byte above 1
+       26     0      width of lines outside 1 to 64
 
      Lines count from 1; the first faulty line decides, and in it the lower number. Build checks 1, the lines,
      10, 11, 12; read 1, the lines, 12; write and start 16, 12; step 16, 15, 12, 17; run 1, then as step; per
-     million 21.
+     million 21; broken check 1 of either trace, 26, 15 of the flywheel trace, 15 of the handle trace, 25.
 
    Netlist: uint16_t numbers, 5 + 2L + 1 + 2A of them, at most 8,194
      M I L O A               highest variable, inputs, latches, outputs, AND gates
@@ -107,6 +112,30 @@ uint64_t ludo_run(const uint16_t *net, size_t net_len, const uint8_t *trace, siz
    rejected * 1,000,000 / cycles. So rejected * 1,000,000 = *whole * cycles + *remainder, with *remainder below
    cycles and *whole at most 1,000,000; nothing is rounded. */
 uint64_t ludo_per_million(uint32_t cycles, uint32_t rejected, uint64_t *whole, uint64_t *remainder);
+
+/* Checks what ludo_broken_line looks at: the flywheel trace and the handle trace of a session, and the verdicts
+   of each. Both traces have lines of `width` bytes, '0' or '1', each ended by LF, which `width`, 1 to 64, does
+   not count; a trace may be empty, and the two need not be equally long. The verdicts of a trace are one byte
+   for each line of it, 1 rejected or 0 accepted, as ludo_run writes them; where ludo_run was lent a longer
+   buffer, only the bytes of the lines are lent here.
+
+   Writes nothing. The line of a 15 counts in its own trace, and the code does not say which trace that is. */
+uint64_t ludo_broken_check(uint64_t width, const uint8_t *flywheel, size_t flywheel_len, const uint8_t *handle, size_t handle_len,
+                           const uint8_t *flywheel_verdicts, size_t flywheel_verdicts_len,
+                           const uint8_t *handle_verdicts, size_t handle_verdicts_len);
+
+/* Finds the line that was rejected first: that of whichever trace was rejected at the earlier cycle; at a tie,
+   the flywheel's. Cycle n of one trace is compared with cycle n of the other. `*trace` is 0 for the flywheel
+   trace, 1 for the handle trace. The line is the `*length` bytes from `*offset` on in that trace, without its
+   LF, so `*length` is `width`. Where no cycle was rejected, or ludo_broken_check refuses, all three are 0: the
+   empty beginning of the flywheel trace. So `*length` is 0 only then, and ludo_broken_check, which goes through
+   the same bytes again, need be asked only then: it tells whether and why the session is refused.
+
+   Takes what ludo_broken_check takes. Every call returns 0 and writes the three results. */
+uint64_t ludo_broken_line(uint64_t width, const uint8_t *flywheel, size_t flywheel_len, const uint8_t *handle, size_t handle_len,
+                          const uint8_t *flywheel_verdicts, size_t flywheel_verdicts_len,
+                          const uint8_t *handle_verdicts, size_t handle_verdicts_len,
+                          uint64_t *trace, uint64_t *offset, uint64_t *length);
 
 #ifdef __cplusplus
 }

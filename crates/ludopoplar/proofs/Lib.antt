@@ -1,3 +1,4 @@
 -- The laws that belong to no one function.
 mod NumberLaws
 mod RateLaws
+mod SessionLaws

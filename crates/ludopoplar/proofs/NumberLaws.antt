@@ -24,6 +24,9 @@ use Rattle.calls.specs.Refusals as runs
 use Rattle.rate.specs.declared.Cause as rate
 use Rattle.rate.specs.declared.Cause.the-variants as rated
 use Rattle.rate.specs.Rates as rates
+use Rattle.first_broken.specs.declared.refusal.Cause as broken
+use Rattle.first_broken.specs.declared.refusal.Cause.the-variants as checked
+use Rattle.first_broken.specs.Refusals as sessions
 use Rattle.ludopoplar.specs.Codes.{codeOf}
 use Rattle.ludopoplar.specs.Claims.{Numbered}
 
@@ -74,6 +77,14 @@ rates-numbered : (cause : rate.Cause) → 1 ≤ rates.refusalOf cause .number
 unfolding rates.refusalOf
 rates-numbered rated.NoRate = omega arith
 
+checks : (cause : broken.Cause) → 1 ≤ sessions.refusalOf cause .number
+unfolding sessions.refusalOf
+checks checked.TraceTooLong = omega arith
+checks checked.WrongWidth = omega arith
+checks (checked.FlywheelLine line) = omega arith
+checks (checked.HandleLine line) = omega arith
+checks checked.WrongVerdicts = omega arith
+
 number-back : (r : Refusal) → r .line < 4294967296 → codeOf r / 4294967296 ≡ r .number
 unfolding codeOf
 number-back r h = omega arith
@@ -90,6 +101,7 @@ numbered =
       read-numbered = reads;
       run-numbered = starts;
       rate-numbered = rates-numbered;
+      check-numbered = checks;
       number-told = number-back;
       line-told = line-back;
     }

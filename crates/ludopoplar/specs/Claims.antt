@@ -1,7 +1,8 @@
 -- What the contracts of the C interface claim. Assumes nothing.
 use mathlib.Core.Path.{_≡_}
 use mathlib.Core.Logic.{_⊎_}
-use Prim.Native.Nat.{ℕ, _*_, _^_, _≤_, _<_, _/_, _%_}
+use Prim.Native.Nat.{ℕ, _+_, _*_, _^_, _≤_, _<_, _/_, _%_}
+use lib.ListN.{length}
 use Rattle.text.specs.declared.Refusal.{Refusal}
 use Rattle.builder.specs.declared.Cause as builder
 use Rattle.builder.specs.Build as build
@@ -14,6 +15,10 @@ use Rattle.calls.specs.Refusals as runs
 use Rattle.rate.specs.declared.Cause as rate
 use Rattle.rate.specs.Rates as rates
 use Rattle.rate.specs.Claims.{Division}
+use Rattle.first_broken.specs.declared.refusal.Cause as broken
+use Rattle.first_broken.specs.Refusals as sessions
+use Rattle.first_broken.specs.Refusals.{Measurement}
+use Rattle.first_broken.specs.Claims.{CheckMeans, BrokenFirst}
 use Rattle.ludopoplar.specs.Codes.{codeOf}
 use Rattle.ludopoplar.specs.Rates.{RateCallEnd, rateCallEnd}
 
@@ -24,6 +29,7 @@ pub record Numbered : Type 0 where
   pub read-numbered : (cause : aigerRead.Cause) → 1 ≤ read.refusalOf cause .number
   pub run-numbered : (cause : simulator.Cause) → 1 ≤ runs.refusalOf cause .number
   pub rate-numbered : (cause : rate.Cause) → 1 ≤ rates.refusalOf cause .number
+  pub check-numbered : (cause : broken.Cause) → 1 ≤ sessions.refusalOf cause .number
   -- 4,294,967,296 is 2^32
   pub number-told : (r : Refusal) → r .line < 4294967296 → codeOf r / 4294967296 ≡ r .number
   pub line-told : (r : Refusal) → r .line < 4294967296 → codeOf r % 4294967296 ≡ r .line
@@ -35,3 +41,15 @@ pub record CallDivides (cycles rejected whole remainder : ℕ) (end : RateCallEn
   -- every other tally is accepted, and the results are those of the division
   pub accepted : 0 < cycles → rejected ≤ cycles → end .code ≡ 0
   pub division : 0 < cycles → rejected ≤ cycles → Division cycles rejected (end .whole) (end .remainder)
+
+-- ---- document 02, No. 12: what check and find claim of their answers, of a check that returned this code
+abbrev pub CallChecks : ℕ → Measurement → Measurement → ℕ → Type 0
+CallChecks width flywheel handle code = CheckMeans width flywheel handle (λ cause number line. code ≡ number * 2 ^ 32 + line) (code ≡ 0)
+
+-- and of a call that returned this code and left these results: the code is 0, and trace, place and length are told,
+-- with 0 for the flywheel trace and 1 for the handle trace
+abbrev pub CallFinds : ℕ → Measurement → Measurement → ℕ → ℕ → ℕ → ℕ → Type 0
+CallFinds width flywheel handle code trace offset count =
+    BrokenFirst width flywheel handle
+    (λ at line. (code ≡ 0) × (trace ≡ 0) × (offset ≡ at) × (count ≡ length line))
+    (λ at line. (code ≡ 0) × (trace ≡ 1) × (offset ≡ at) × (count ≡ length line))

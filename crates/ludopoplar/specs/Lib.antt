@@ -3,4 +3,5 @@ pub mod Codes
 pub mod Circuits
 pub mod Runs
 pub mod Rates
+pub mod Sessions
 pub mod Claims

@@ -1,13 +1,15 @@
-// The C interface: build, write, read, start, step, run and per million as a static library has them. Each function
-// calls the one of its name and puts what that answers where C looks for it. It returns 0 where the call is accepted,
-// else number × 2^32 + line; results go through pointers, which a refusal leaves as they were. Computes nothing
-// itself. Exports that code, results, tally and buffers are those that their definitions give, and of a rate that
-// its results are those of a division: the clause `divides` of `ludo_per_million`.
-// `include/ludopoplar.h` declares these functions to C.
+// The C interface: build, write, read, start, step, run, per million, broken check and broken line as a static library
+// has them. Each function calls the one that it is named after and puts what that answers where C looks for it. It
+// returns 0 where the call is accepted, else number × 2^32 + line; results go through pointers, which a refusal leaves
+// as they were. Computes nothing itself. Exports that code, results, tally and buffers are those that their definitions
+// give; of a rate that its results are those of a division, the clause `divides` of `ludo_per_million`; of a session
+// that was measured twice what a code means and which line it is, the clauses `checks` of `ludo_broken_check` and
+// `first` of `ludo_broken_line`. `include/ludopoplar.h` declares these functions to C.
 use aiger::Written;
 use aiger_read::ReadOutcome;
 use builder::Built;
 use calls::Tally;
+use first_broken::Checked;
 use rate::Rated;
 use simulator::RunOutcome;
 use simulator::StartOutcome;
@@ -17,9 +19,10 @@ use text::Refusal;
 ghost use mathlib.Core.Path.{_≡_};
 ghost use Rattle.ludopoplar.specs.Codes.{codeOf};
 ghost use Rattle.ludopoplar.specs.Circuits.{filled, buildCall, writeCall, readCall};
-ghost use Rattle.ludopoplar.specs.Claims.{Numbered, CallDivides};
+ghost use Rattle.ludopoplar.specs.Claims.{Numbered, CallDivides, CallChecks, CallFinds};
 ghost use Rattle.ludopoplar.specs.Runs.{verdictNumber, startCallEnd, startCall, stepCallEnd, stepCall, runCallEnd, runCall};
 ghost use Rattle.ludopoplar.specs.Rates.{rateCallEnd, rateCall};
+ghost use Rattle.ludopoplar.specs.Sessions.{brokenCheckCall, traceNumber, brokenLineEnd, brokenLineCall};
 
 // A call that is accepted returns this.
 const ACCEPTED: u64 = 0;
@@ -197,4 +200,69 @@ pub extern "C" fn ludo_per_million(
         }
         Rated::Refused(cause) => code(cause.refusal()),
     }
+}
+
+// Tests a session that was measured twice.
+#[no_mangle]
+pub extern "C" fn ludo_broken_check(
+    width: u64,
+    flywheel: &[u8],
+    handle: &[u8],
+    flywheel_verdicts: &[u8],
+    handle_verdicts: &[u8],
+) -> u64
+    ensures { λ r. ⌜ r ≡ brokenCheckCall width (record { trace = now (flywheel .entry); verdicts = now («flywheel_verdicts» .entry) }) (record { trace = now (handle .entry); verdicts = now («handle_verdicts» .entry) }) ⌝ }
+    ensures checks { λ r. ⌜ CallChecks width (record { trace = now (flywheel .entry); verdicts = now («flywheel_verdicts» .entry) }) (record { trace = now (handle .entry); verdicts = now («handle_verdicts» .entry) }) r ⌝ }
+{
+    let checked = first_broken::check(
+        width as usize,
+        flywheel,
+        handle,
+        flywheel_verdicts,
+        handle_verdicts,
+    );
+    match checked {
+        Checked::Fine => ACCEPTED,
+        Checked::Refused(cause) => code(cause.refusal()),
+    }
+}
+
+// The number of a trace.
+fn trace_number(handle: bool) -> u64
+    ensures { λ r. ⌜ r ≡ traceNumber handle ⌝ }
+{
+    if handle {
+        return 1;
+    }
+    0
+}
+
+// Finds the line that was rejected first.
+#[no_mangle]
+pub extern "C" fn ludo_broken_line(
+    width: u64,
+    flywheel: &[u8],
+    handle: &[u8],
+    flywheel_verdicts: &[u8],
+    handle_verdicts: &[u8],
+    trace: &mut u64,
+    offset: &mut u64,
+    length: &mut u64,
+) -> u64
+    ensures { λ r. ⌜ brokenLineEnd r (now (trace .exit)) (now (offset .exit)) (now (length .exit))
+        ≡ brokenLineCall width (record { trace = now (flywheel .entry); verdicts = now («flywheel_verdicts» .entry) }) (record { trace = now (handle .entry); verdicts = now («handle_verdicts» .entry) }) ⌝ }
+    ensures first { λ r. ⌜ CallFinds width (record { trace = now (flywheel .entry); verdicts = now («flywheel_verdicts» .entry) }) (record { trace = now (handle .entry); verdicts = now («handle_verdicts» .entry) })
+        r (now (trace .exit)) (now (offset .exit)) (now (length .exit)) ⌝ }
+{
+    let found = first_broken::find(
+        width as usize,
+        flywheel,
+        handle,
+        flywheel_verdicts,
+        handle_verdicts,
+    );
+    *trace = trace_number(found.handle);
+    *offset = found.at as u64;
+    *length = found.length as u64;
+    ACCEPTED
 }

@@ -85,7 +85,7 @@ digits-some =
 
 -- ---- the bytes that are digits
 
-and-both : (a b : Bool) → (a && b) ≡ true → (a ≡ true) × (b ≡ true)
+pub and-both : (a b : Bool) → (a && b) ≡ true → (a ≡ true) × (b ≡ true)
 and-both true b h = (refl, h)
 and-both false b h = (h, absurd (let z : _≡_ {A = ℕ} 0 1 = cc in omega arith))
 

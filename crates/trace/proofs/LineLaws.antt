@@ -137,7 +137,7 @@ module _ (n : ℕ) where
   no-fault line [] h = refl
   no-fault line (c ∷ cs) h = over line n 0 c (linesOf cs) (omega arith) (h .0) ∙ no-fault (line + 1) cs (h .1)
 
-  lines-length : (cs : List (List ℕ)) → Cycles n cs → length (linesOf cs) ≡ length cs * (n + 1)
+  pub lines-length : (cs : List (List ℕ)) → Cycles n cs → length (linesOf cs) ≡ length cs * (n + 1)
   unfolding Cycles linesOf
   lines-length [] h = omega arith
   lines-length (c ∷ cs) h =

@@ -1,13 +1,22 @@
-//! The cases: one call, or a list of calls on one netlist.
+//! The cases: one call, or a list of calls on one netlist; and now and then a session.
 
 use crate::bench::Bench;
 use crate::compare::{Call, Lengths, Memory, Mismatch, Name};
 use crate::random::Random;
 use crate::round_trip::write_and_read_back;
-use crate::{aigers, graphs, netlists, rates, sequence, traces};
+use crate::{aigers, graphs, netlists, rates, sequence, sessions, traces};
 use reference::{formula_of_gates, Graph, Netlist, Tally};
 
+/// The session is drawn last, so that the others' draws do not depend on it.
 pub fn case(bench: &mut Bench) -> Result<(), Mismatch> {
+    calls(bench)?;
+    if bench.random.once_in(4) {
+        session(bench)?;
+    }
+    Ok(())
+}
+
+fn calls(bench: &mut Bench) -> Result<(), Mismatch> {
     match bench.random.below(21) {
         0..=6 => build(bench),
         7..=10 => read(bench),
@@ -176,4 +185,12 @@ fn long_run(random: &mut Random) -> (Vec<u16>, Vec<u8>) {
 fn per_million(bench: &mut Bench) -> Result<(), Mismatch> {
     let tally = rates::any(&mut bench.random);
     rates::compare_rate(bench, tally)
+}
+
+fn session(bench: &mut Bench) -> Result<(), Mismatch> {
+    let random = &mut bench.random;
+    let width = sessions::any_width(random);
+    let flywheel = sessions::any(random, width);
+    let handle = sessions::any(random, width);
+    sessions::compare_session(bench, width, &flywheel, &handle)
 }

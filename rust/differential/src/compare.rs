@@ -1,8 +1,9 @@
 //! One call by the library and by the reference, and what differs between them.
 
 use crate::random::Random;
+use crate::sessions::Session;
 use ludopoplar::raw;
-use reference::{Refusal, Tally, Verdict};
+use reference::{Refusal, Tally, Trace, Verdict};
 use std::fmt::{Debug, Write as _};
 
 #[derive(Clone, Copy, Debug, PartialEq, Eq, PartialOrd, Ord)]
@@ -14,6 +15,8 @@ pub enum Name {
     Step,
     Run,
     PerMillion,
+    BrokenCheck,
+    BrokenLine,
 }
 
 /// A call with what it reads: `bytes` is a graph, an AIGER text, a cycle or a trace.
@@ -22,26 +25,43 @@ pub struct Call {
     pub name: Name,
     pub net: Vec<u16>,
     pub bytes: Vec<u8>,
+    /// What `BrokenCheck` and `BrokenLine` read instead.
+    session: Option<Session>,
 }
 
 impl Call {
     pub fn on_bytes(name: Name, bytes: Vec<u8>) -> Call {
-        let net = Vec::new();
-        Call { name, net, bytes }
+        Call::on_net(name, Vec::new(), bytes)
     }
 
     pub fn on_net(name: Name, net: Vec<u16>, bytes: Vec<u8>) -> Call {
-        Call { name, net, bytes }
+        Call {
+            name,
+            net,
+            bytes,
+            session: None,
+        }
     }
 
     /// Of the memory's tally, which goes by value.
     pub fn per_million() -> Call {
         Call::on_bytes(Name::PerMillion, Vec::new())
     }
+
+    pub fn on_session(name: Name, session: Session) -> Call {
+        Call {
+            session: Some(session),
+            ..Call::on_bytes(name, Vec::new())
+        }
+    }
+
+    pub fn session(&self) -> &Session {
+        self.session.as_ref().expect("a call on a session")
+    }
 }
 
-/// A lent buffer with random contents. It lies within a longer one, whose ends
-/// belong to nobody and must stay too.
+/// A lent buffer with random or given contents. It lies within a longer one, whose
+/// ends belong to nobody and must stay too.
 #[derive(Clone, PartialEq)]
 pub struct Lent<T> {
     cells: Vec<T>,
@@ -53,6 +73,14 @@ const MARGIN: usize = 3;
 impl<T: Copy> Lent<T> {
     fn random(random: &mut Random, length: usize, cell: fn(&mut Random) -> T) -> Self {
         let cells = (0..length + 2 * MARGIN).map(|_| cell(random)).collect();
+        Lent { cells, length }
+    }
+
+    /// Random cells stand only beside the contents.
+    pub fn holding(random: &mut Random, contents: &[T], cell: fn(&mut Random) -> T) -> Self {
+        let mut margin = || [(); MARGIN].map(|()| cell(random));
+        let cells = [&margin(), contents, &margin()].concat();
+        let length = contents.len();
         Lent { cells, length }
     }
 
@@ -88,6 +116,8 @@ pub struct Memory {
     pub answer: u64,
     /// The second result of `PerMillion`; the other calls leave it.
     pub remainder: u64,
+    /// Trace, offset and length that `BrokenLine` finds; no other call is lent them.
+    pub part: [u64; 3],
 }
 
 impl Memory {
@@ -104,6 +134,7 @@ impl Memory {
             },
             answer: random.word(),
             remainder: random.word(),
+            part: [0; 3],
         }
     }
 }
@@ -168,6 +199,8 @@ fn library(call: &mut Call, memory: &mut Memory) -> u64 {
             )
         }
         Name::PerMillion => raw::per_million(*cycles, *rejected, answer, remainder),
+        Name::BrokenCheck => call.session().check_by_library(),
+        Name::BrokenLine => call.session().line_by_library(&mut memory.part),
     }
 }
 
@@ -194,6 +227,16 @@ fn reference_call(call: &Call, memory: &mut Memory) -> Result<(), Refusal> {
             memory.remainder = rate.remainder.into();
             rate.whole.into()
         }
+        Name::BrokenCheck => return call.session().check_by_reference(),
+        Name::BrokenLine => {
+            let part = call.session().line_by_reference();
+            let trace = match part.trace {
+                Trace::Flywheel => 0,
+                Trace::Handle => 1,
+            };
+            memory.part = [trace, part.offset as u64, part.bytes.len() as u64];
+            return Ok(());
+        }
     };
     memory.answer = answer;
     Ok(())
@@ -218,6 +261,9 @@ fn memory_differences(found: &Memory, due: &Memory) -> String {
     }
     differences += &word_difference("answer", found.answer, due.answer);
     differences += &word_difference("remainder", found.remainder, due.remainder);
+    for (place, what) in ["trace", "offset", "length"].iter().enumerate() {
+        differences += &word_difference(what, found.part[place], due.part[place]);
+    }
     differences
 }
 
@@ -244,6 +290,9 @@ fn buffer_difference<T: PartialEq + Debug>(what: &str, found: &Lent<T>, due: &Le
 }
 
 fn told(call: &Call, tally: Tally, memory: &Memory, differences: &str) -> String {
+    if let Some(session) = &call.session {
+        return format!("call: {:?}\n{session}\n{differences}", call.name);
+    }
     format!(
         "call: {:?}\nnumbers lent: {:?}\nbytes lent ({}): \"{}\"\nbefore: {:?}\n\
          buffer lengths: numbers {}, text {}, latches {}, values {}, verdicts {}\n{}",
@@ -262,7 +311,7 @@ fn told(call: &Call, tally: Tally, memory: &Memory, differences: &str) -> String
 }
 
 /// The bytes with unprintable ones escaped; of a very long text the two ends.
-fn escaped(bytes: &[u8]) -> String {
+pub fn escaped(bytes: &[u8]) -> String {
     const SHOWN: usize = 35_000;
     match bytes.len() > 2 * SHOWN {
         false => bytes.escape_ascii().to_string(),

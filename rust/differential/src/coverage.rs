@@ -4,8 +4,8 @@ use crate::compare::{Name, Outcome};
 use std::collections::BTreeMap;
 use std::fmt;
 
-/// Every number each call can be refused with.
-const REFUSALS: [(Name, &[u32]); 7] = [
+/// Every number each call can be refused with; `BrokenLine` never is.
+const REFUSALS: [(Name, &[u32]); 8] = [
     (Name::Build, &[1, 2, 3, 4, 5, 6, 7, 8, 9, 10, 11, 12]),
     (Name::Read, &[1, 12, 13, 14]),
     (Name::Write, &[12, 16]),
@@ -13,6 +13,7 @@ const REFUSALS: [(Name, &[u32]); 7] = [
     (Name::Step, &[12, 15, 16, 17]),
     (Name::Run, &[1, 12, 15, 16, 17]),
     (Name::PerMillion, &[21]),
+    (Name::BrokenCheck, &[1, 15, 25, 26]),
 ];
 
 #[derive(Default)]
@@ -24,11 +25,26 @@ pub struct Coverage {
     pub path_rejected: u64,
     /// Netlists written and read back.
     pub read_back: u64,
+    /// Of the sessions that are good, those whose flywheel's or handle's line was handed
+    /// back, and those without one.
+    flywheel_lines: u64,
+    handle_lines: u64,
+    no_lines: u64,
 }
 
 impl Coverage {
     pub fn record(&mut self, name: Name, outcome: &Outcome) {
         *self.met.entry((name, outcome.number)).or_default() += 1;
+    }
+
+    /// Counts the trace, offset and length that were found in a good session.
+    pub fn record_line(&mut self, part: [u64; 3]) {
+        let count = match part {
+            [_, _, 0] => &mut self.no_lines,
+            [0, _, _] => &mut self.flywheel_lines,
+            _ => &mut self.handle_lines,
+        };
+        *count += 1;
     }
 
     fn count(&self, name: Name, number: u32) -> u64 {
@@ -48,6 +64,9 @@ impl Coverage {
         if self.path_rejected == 0 || self.path_rejected == self.path_cycles {
             gaps.push("paths".into());
         }
+        if [self.flywheel_lines, self.handle_lines, self.no_lines].contains(&0) {
+            gaps.push("lines handed back".into());
+        }
         gaps
     }
 }
@@ -62,6 +81,11 @@ impl fmt::Display for Coverage {
             }
             writeln!(f)?;
         }
+        writeln!(
+            f,
+            "lines handed back: {} of the flywheel, {} of the handle, {} empty",
+            self.flywheel_lines, self.handle_lines, self.no_lines
+        )?;
         writeln!(f, "read(write(net)): {} netlists", self.read_back)?;
         write!(
             f,

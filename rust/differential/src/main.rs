@@ -1,7 +1,7 @@
 //! Compares the proved library with the reference over seeded random and
 //! damaged inputs: returns, out-parameters and every cell of every buffer, also
-//! after refusals; and tallies, verdict bytes and the verdicts of runs with the
-//! paths of the graph.
+//! after refusals; the place of a line that is handed back in the caller's memory;
+//! and tallies, verdict bytes and the verdicts of runs with the paths of the graph.
 
 mod aigers;
 mod bench;
@@ -15,6 +15,7 @@ mod random;
 mod rates;
 mod round_trip;
 mod sequence;
+mod sessions;
 mod sweep;
 mod traces;
 

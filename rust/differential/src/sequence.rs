@@ -1,12 +1,13 @@
 //! Demand 3: an accepted graph, an accepted start, and a list of steps and runs
 //! with latch words and tally handed on, refused calls included; its tally, its
-//! verdict bytes and the verdict of each run against the paths of the graph; and
-//! the rate of the tally it leaves.
+//! verdict bytes and the verdict of each run against the paths of the graph; the
+//! rate of the tally it leaves; and its runs as the measurements of sessions.
 
 use crate::bench::Bench;
 use crate::compare::{Call, Lengths, Memory, Mismatch, Name, Outcome};
 use crate::rates::compare_rate;
 use crate::round_trip::write_and_read_back;
+use crate::sessions::{compare_session, Measurement};
 use crate::{graphs, netlists, traces};
 use reference::{rejected_cycles, Graph, Tally};
 
@@ -21,6 +22,8 @@ struct Thread {
     cycles: Vec<Vec<u8>>,
     /// What the accepted calls showed.
     shown: Vec<Shown>,
+    /// The accepted runs, of all starts.
+    runs: Vec<Measurement>,
 }
 
 /// After so many cycles: the tally, the verdict bytes of the last ones, which are
@@ -48,7 +51,7 @@ pub fn sequence(bench: &mut Bench) -> Result<(), Mismatch> {
         thread.check_paths(bench)?;
         compare_rate(bench, thread.tally)?;
     }
-    Ok(())
+    thread.compare_runs(bench)
 }
 
 /// Builds accepted graphs only; a refused draw is drawn again.
@@ -75,6 +78,7 @@ fn built(bench: &mut Bench) -> Result<Thread, Mismatch> {
             tally: Tally::default(),
             cycles: Vec::new(),
             shown: Vec::new(),
+            runs: Vec::new(),
         });
     }
 }
@@ -134,6 +138,10 @@ impl Thread {
             let verdicts = outcome.memory.verdicts.get()[..new_cycles.len()].to_vec();
             self.cycles.extend(new_cycles);
             self.hand_on(&outcome);
+            self.runs.push(Measurement {
+                trace: call.bytes,
+                verdicts: verdicts.clone(),
+            });
             self.show(verdicts, Some(outcome.memory.answer));
         }
         Ok(())
@@ -169,6 +177,14 @@ impl Thread {
             verdicts,
             verdict,
         });
+    }
+
+    /// Each run and the next one as the flywheel and the handle of a session.
+    fn compare_runs(&self, bench: &mut Bench) -> Result<(), Mismatch> {
+        for pair in self.runs.windows(2) {
+            compare_session(bench, self.inputs() as u64, &pair[0], &pair[1])?;
+        }
+        Ok(())
     }
 
     /// Following paths takes settings × edges for each vertex reached.

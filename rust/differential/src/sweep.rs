@@ -1,9 +1,11 @@
-//! Every change of one byte or one number in a few small inputs, and every pair of
-//! some numbers as a tally.
+//! Every change of one byte or one number in a few small inputs, every pair of some
+//! numbers as a tally, and sessions of every small kind.
 
 use crate::bench::Bench;
 use crate::compare::{Call, Lengths, Memory, Mismatch, Name};
 use crate::rates;
+use crate::sessions::{compare_session, Measurement};
+use crate::traces::MAX_TRACE_BYTES;
 use reference::Tally;
 
 /// Has records of every kind, operators of every strength, both marks.
@@ -12,6 +14,7 @@ const GRAPH: &[u8] = b"S\tp\nS\tq_9\nK\tk\nV\ta\nV\tbZ\n\
 const AIGER: &[u8] = b"aag 6 2 3 1 1\n2\n4\n6 5\n8 12 1\n10 10 10\n12\n12 9 4\n";
 const NUMBERS: [u16; 14] = [6, 2, 3, 1, 1, 5, 0, 12, 1, 10, 10, 12, 9, 4];
 const TRACE: &[u8] = b"10\n01\n11\n";
+const HANDLE: &[u8] = b"00\n01\n";
 
 /// Answers how many calls were compared.
 pub fn sweep(bench: &mut Bench) -> Result<usize, Mismatch> {
@@ -45,6 +48,7 @@ pub fn sweep(bench: &mut Bench) -> Result<usize, Mismatch> {
         rates::compare_rate(bench, tally)?;
         count += 1;
     }
+    count += sweep_sessions(bench)?;
     Ok(count)
 }
 
@@ -95,4 +99,80 @@ fn changed_numbers() -> Vec<Vec<u16>> {
         }
     }
     changed
+}
+
+/// A session at many widths, and with every change of one byte in a trace or a verdict
+/// list; every pair of verdict lists of up to four cycles; every choice of faults.
+fn sweep_sessions(bench: &mut Bench) -> Result<usize, Mismatch> {
+    let mut count = 0;
+    let mut compare = |width, flywheel: &Measurement, handle: &Measurement| {
+        count += 2;
+        compare_session(bench, width, flywheel, handle)
+    };
+    let flywheel = measurement(TRACE, &[0, 0, 1]);
+    let handle = measurement(HANDLE, &[0, 1]);
+    // Those of more bits have 2 in the lowest, or are all ones.
+    for width in (0..=70).chain([258, 65_538, 1 << 32 | 2, 1 << 63 | 2, u64::MAX]) {
+        compare(width, &flywheel, &handle)?;
+    }
+    for changed in changed_measurements(&flywheel) {
+        compare(2, &changed, &handle)?;
+    }
+    for changed in changed_measurements(&handle) {
+        compare(2, &flywheel, &changed)?;
+    }
+    for (flywheel, handle) in pairs(&judged_measurements()) {
+        compare(2, flywheel, handle)?;
+    }
+    for width in [2, 0] {
+        for (flywheel, handle) in pairs(&faulty_measurements()) {
+            compare(width, flywheel, handle)?;
+        }
+    }
+    Ok(count)
+}
+
+fn measurement(trace: &[u8], verdicts: &[u8]) -> Measurement {
+    Measurement {
+        trace: trace.to_vec(),
+        verdicts: verdicts.to_vec(),
+    }
+}
+
+fn pairs<T>(items: &[T]) -> impl Iterator<Item = (&T, &T)> {
+    items
+        .iter()
+        .flat_map(|one| items.iter().map(move |other| (one, other)))
+}
+
+fn changed_measurements(good: &Measurement) -> Vec<Measurement> {
+    let traces = changed_texts(&good.trace).into_iter();
+    let verdicts = changed_texts(&good.verdicts).into_iter();
+    let with_trace = traces.map(|trace| measurement(&trace, &good.verdicts));
+    let with_verdicts = verdicts.map(|verdicts| measurement(&good.trace, &verdicts));
+    with_trace.chain(with_verdicts).collect()
+}
+
+/// Every verdict list of up to four cycles, over a trace of as many.
+fn judged_measurements() -> Vec<Measurement> {
+    let mut lists: Vec<Vec<u8>> = vec![Vec::new()];
+    for shorter in 0..15 {
+        for byte in [0, 1] {
+            lists.push([&lists[shorter][..], &[byte]].concat());
+        }
+    }
+    let over_trace = |list: &Vec<u8>| measurement(&b"01\n".repeat(list.len()), list);
+    lists.iter().map(over_trace).collect()
+}
+
+/// With or without each fault of a trace, and of a verdict list.
+fn faulty_measurements() -> Vec<Measurement> {
+    let too_long = vec![b'1'; MAX_TRACE_BYTES + 1];
+    let mut measurements = Vec::new();
+    for trace in [TRACE, b"10\n0x\n11\n", b"10\n01\n11", &too_long] {
+        for verdicts in [&[0, 1, 0][..], &[0, 1], &[0, 1, 2]] {
+            measurements.push(measurement(trace, verdicts));
+        }
+    }
+    measurements
 }

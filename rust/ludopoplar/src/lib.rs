@@ -1,8 +1,9 @@
 //! Builder and simulator of monitor circuits: safe calls into the proved
 //! static library.
 //!
-//! Each function is one call of the C interface. A refused call leaves every
-//! buffer and the tally as they were; a longer buffer keeps its surplus.
+//! Each function is one call of the C interface; `first_broken` hands back a part of what
+//! it was lent, and makes a second call where that is empty. A refused call leaves every buffer and the tally as they
+//! were; a longer buffer keeps its surplus.
 
 pub mod raw;
 
@@ -47,6 +48,21 @@ pub enum Verdict {
 pub struct Rate {
     pub whole: u64,
     pub remainder: u64,
+}
+
+/// One of the two traces of a session.
+#[derive(Clone, Copy, Debug, PartialEq, Eq)]
+pub enum Trace {
+    Flywheel,
+    Handle,
+}
+
+/// A part of a session's traces: `length` bytes of that trace, after its first `offset`.
+#[derive(Clone, Copy, Debug, PartialEq, Eq)]
+pub struct Part {
+    pub trace: Trace,
+    pub offset: usize,
+    pub length: usize,
 }
 
 /// Builds the monitor circuit of a graph text; returns the number of its gates.
@@ -139,4 +155,75 @@ pub fn per_million(tally: Tally) -> Result<Rate, Refusal> {
         &mut remainder,
     ))?;
     Ok(Rate { whole, remainder })
+}
+
+/// Checks a session: two traces whose lines all have `width` bytes, 1 to 64, and the
+/// verdict bytes of each. The traces need not be equally long.
+pub fn broken_check(
+    width: usize,
+    flywheel: &[u8],
+    handle: &[u8],
+    flywheel_verdicts: &[u8],
+    handle_verdicts: &[u8],
+) -> Result<(), Refusal> {
+    Refusal::check(raw::broken_check(
+        width as u64,
+        flywheel,
+        handle,
+        flywheel_verdicts,
+        handle_verdicts,
+    ))
+}
+
+/// Finds the line, without its LF, of the earliest cycle that was rejected in either
+/// trace, the flywheel's where both were. Never refused: where no cycle was rejected, or
+/// `broken_check` refuses, it is the empty beginning of the flywheel trace, and only then is
+/// its length 0.
+pub fn broken_line(
+    width: usize,
+    flywheel: &[u8],
+    handle: &[u8],
+    flywheel_verdicts: &[u8],
+    handle_verdicts: &[u8],
+) -> Part {
+    let (mut trace, mut offset, mut length) = (0, 0, 0);
+    raw::broken_line(
+        width as u64,
+        flywheel,
+        handle,
+        flywheel_verdicts,
+        handle_verdicts,
+        &mut trace,
+        &mut offset,
+        &mut length,
+    );
+    Part {
+        trace: match trace {
+            0 => Trace::Flywheel,
+            _ => Trace::Handle,
+        },
+        offset: offset as usize,
+        length: length as usize,
+    }
+}
+
+/// Hands back the line that `broken_line` finds, as a part of the caller's own trace; the
+/// empty beginning of the flywheel trace where no cycle was rejected. Refused where
+/// `broken_check` refuses.
+pub fn first_broken<'a>(
+    width: usize,
+    flywheel: &'a [u8],
+    handle: &'a [u8],
+    flywheel_verdicts: &[u8],
+    handle_verdicts: &[u8],
+) -> Result<&'a [u8], Refusal> {
+    let part = broken_line(width, flywheel, handle, flywheel_verdicts, handle_verdicts);
+    if part.length == 0 {
+        broken_check(width, flywheel, handle, flywheel_verdicts, handle_verdicts)?;
+    }
+    let trace = match part.trace {
+        Trace::Flywheel => flywheel,
+        Trace::Handle => handle,
+    };
+    Ok(&trace[part.offset..][..part.length])
 }

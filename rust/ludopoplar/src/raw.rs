@@ -1,5 +1,6 @@
 //! The C interface as it stands: each call returns 0 where it is accepted, else
 //! number × 2^32 + line, and a refusal leaves its out-parameters as they were.
+//! `broken_line` is never refused.
 
 mod c {
     extern "C" {
@@ -72,10 +73,37 @@ mod c {
             whole: *mut u64,
             remainder: *mut u64,
         ) -> u64;
+
+        pub fn ludo_broken_check(
+            width: u64,
+            flywheel: *const u8,
+            flywheel_len: usize,
+            handle: *const u8,
+            handle_len: usize,
+            flywheel_verdicts: *const u8,
+            flywheel_verdicts_len: usize,
+            handle_verdicts: *const u8,
+            handle_verdicts_len: usize,
+        ) -> u64;
+
+        pub fn ludo_broken_line(
+            width: u64,
+            flywheel: *const u8,
+            flywheel_len: usize,
+            handle: *const u8,
+            handle_len: usize,
+            flywheel_verdicts: *const u8,
+            flywheel_verdicts_len: usize,
+            handle_verdicts: *const u8,
+            handle_verdicts_len: usize,
+            trace: *mut u64,
+            offset: *mut u64,
+            length: *mut u64,
+        ) -> u64;
     }
 }
 
-// SAFETY, of all seven: every pointer comes from a reference or a slice that lives
+// SAFETY, of all nine: every pointer comes from a reference or a slice that lives
 // through the call, with that slice's own length; the exclusive borrows keep what
 // the library writes apart from all else; the library keeps no pointer.
 
@@ -187,4 +215,56 @@ pub fn run(
 
 pub fn per_million(cycles: u32, rejected: u32, whole: &mut u64, remainder: &mut u64) -> u64 {
     unsafe { c::ludo_per_million(cycles, rejected, whole, remainder) }
+}
+
+pub fn broken_check(
+    width: u64,
+    flywheel: &[u8],
+    handle: &[u8],
+    flywheel_verdicts: &[u8],
+    handle_verdicts: &[u8],
+) -> u64 {
+    unsafe {
+        c::ludo_broken_check(
+            width,
+            flywheel.as_ptr(),
+            flywheel.len(),
+            handle.as_ptr(),
+            handle.len(),
+            flywheel_verdicts.as_ptr(),
+            flywheel_verdicts.len(),
+            handle_verdicts.as_ptr(),
+            handle_verdicts.len(),
+        )
+    }
+}
+
+// As many arguments as the C function has.
+#[allow(clippy::too_many_arguments)]
+pub fn broken_line(
+    width: u64,
+    flywheel: &[u8],
+    handle: &[u8],
+    flywheel_verdicts: &[u8],
+    handle_verdicts: &[u8],
+    trace: &mut u64,
+    offset: &mut u64,
+    length: &mut u64,
+) -> u64 {
+    unsafe {
+        c::ludo_broken_line(
+            width,
+            flywheel.as_ptr(),
+            flywheel.len(),
+            handle.as_ptr(),
+            handle.len(),
+            flywheel_verdicts.as_ptr(),
+            flywheel_verdicts.len(),
+            handle_verdicts.as_ptr(),
+            handle_verdicts.len(),
+            trace,
+            offset,
+            length,
+        )
+    }
 }

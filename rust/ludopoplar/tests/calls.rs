@@ -1,8 +1,9 @@
 //! The safe calls: document 01's graph G, the words of a start, the verdict of each run, the rate
-//! of each tally, empty slices, refusals.
+//! of each tally, the line handed back from each session, empty slices, refusals.
 
 use ludopoplar::{
-    build, per_million, raw, read, run, start, step, write, Rate, Refusal, Tally, Verdict,
+    broken_check, broken_line, build, first_broken, per_million, raw, read, run, start, step,
+    write, Part, Rate, Refusal, Tally, Trace, Verdict,
 };
 
 const G: &[u8] = b"S\tp\nS\tq\nV\ta\nV\tb\nE\ta\tb\tt\tp\tq\n";
@@ -155,6 +156,146 @@ fn per_million_of_a_run() {
         remainder: 1,
     };
     assert_eq!(per_million(tally), Ok(due));
+}
+
+const F: &[u8] = b"10\n11\n01\n";
+const H: &[u8] = b"00\n01\n";
+
+/// Width, flywheel trace, handle trace, and the verdict bytes of each.
+type Session<'a> = (usize, &'a [u8], &'a [u8], &'a [u8], &'a [u8]);
+
+/// Makes every call on a session. Its traces are lent from within longer ones, so that an empty
+/// one too has a place of its own.
+fn check_session(session: Session, due: Result<Part, Refusal>) {
+    let (width, flywheel, handle, of_flywheel, of_handle) = session;
+    let around = [flywheel, handle].map(|trace| [b"#", trace, b"#"].concat());
+    let [flywheel, handle] = [&around[0], &around[1]].map(|all| &all[1..all.len() - 1]);
+    let empty_beginning = Part {
+        trace: Trace::Flywheel,
+        offset: 0,
+        length: 0,
+    };
+    let part = due.unwrap_or(empty_beginning);
+    let check = broken_check(width, flywheel, handle, of_flywheel, of_handle);
+    assert_eq!(check, due.map(|_| ()));
+    let found = broken_line(width, flywheel, handle, of_flywheel, of_handle);
+    assert_eq!(found, part);
+
+    let (number, trace) = match part.trace {
+        Trace::Flywheel => (0, flywheel),
+        Trace::Handle => (1, handle),
+    };
+    let mut results = [77, 78, 79];
+    let [which, offset, length] = &mut results;
+    let code = raw::broken_line(
+        width as u64,
+        flywheel,
+        handle,
+        of_flywheel,
+        of_handle,
+        which,
+        offset,
+        length,
+    );
+    let due_results = [number, part.offset as u64, part.length as u64];
+    assert_eq!((code, results), (0, due_results));
+
+    match first_broken(width, flywheel, handle, of_flywheel, of_handle) {
+        Err(refusal) => assert_eq!(due, Err(refusal)),
+        Ok(line) => {
+            let place = trace[part.offset..].as_ptr();
+            assert_eq!((line.as_ptr(), line.len()), (place, part.length));
+            assert!(due.is_ok());
+        }
+    }
+}
+
+/// Document 02, No. 12: sessions, and the trace, offset and length of the line handed back.
+#[test]
+fn line_of_each_session() {
+    use Trace::{Flywheel, Handle};
+    let longest = b"1\n".repeat(524_288);
+    let mut only_last = vec![0; 524_288];
+    only_last[524_287] = 1;
+    let sessions: [(Session, (Trace, usize, usize)); 10] = [
+        ((2, F, H, &[0, 0, 1], &[0, 0]), (Flywheel, 6, 2)),
+        ((2, F, H, &[0, 1, 0], &[0, 1]), (Flywheel, 3, 2)),
+        ((2, F, H, &[0, 0, 1], &[0, 1]), (Handle, 3, 2)),
+        ((2, F, H, &[0, 0, 0], &[1, 1]), (Handle, 0, 2)),
+        ((2, F, H, &[0, 0, 0], &[0, 0]), (Flywheel, 0, 0)),
+        ((2, b"", b"", &[], &[]), (Flywheel, 0, 0)),
+        ((2, b"", H, &[], &[0, 1]), (Handle, 3, 2)),
+        (
+            (1, &longest, b"", &only_last, &[]),
+            (Flywheel, 1_048_574, 1),
+        ),
+        ((1, b"", &longest, &[], &only_last), (Handle, 1_048_574, 1)),
+        ((2, H, F, &[0, 0], &[0, 0, 1]), (Handle, 6, 2)),
+    ];
+    for (session, (trace, offset, length)) in sessions {
+        let part = Part {
+            trace,
+            offset,
+            length,
+        };
+        check_session(session, Ok(part));
+    }
+}
+
+#[test]
+fn refused_sessions() {
+    let too_long = vec![b'1'; 1_048_577];
+    let sessions: [(Session, (u32, u32)); 15] = [
+        ((0, F, H, &[0, 0, 1], &[0, 0]), (26, 0)),
+        ((65, F, H, &[0, 0, 1], &[0, 0]), (26, 0)),
+        ((3, F, H, &[0, 0, 1], &[0, 0]), (15, 1)),
+        ((2, &F[..8], H, &[0, 0, 1], &[0, 0]), (15, 3)),
+        ((2, F, b"00\n0x\n", &[0, 0, 1], &[0, 0]), (15, 2)),
+        ((2, b"1\n", b"0\n", &[0], &[0]), (15, 1)),
+        ((2, F, H, &[0, 0], &[0, 0]), (25, 0)),
+        ((2, F, H, &[0, 0, 2], &[0, 0]), (25, 0)),
+        ((2, F, H, &[1, 0, 0], &[0, 0, 0]), (25, 0)),
+        ((2, b"", H, &[0], &[0, 0]), (25, 0)),
+        ((0, &too_long, H, &[], &[0, 0]), (1, 0)),
+        ((0, F, &too_long, &[0, 0, 0], &[]), (1, 0)),
+        ((usize::MAX, F, H, &[0, 0, 1], &[0, 0]), (26, 0)),
+        ((1 << 32 | 2, F, H, &[0, 0, 1], &[0, 0]), (26, 0)),
+        ((2, b"10\n1\n", b"0\n", &[0, 0], &[0]), (15, 2)),
+    ];
+    for (session, (number, line)) in sessions {
+        check_session(session, Err(Refusal { number, line }));
+    }
+}
+
+/// What is handed back lives as long as the traces do, whatever becomes of the verdict bytes.
+#[test]
+fn line_outlives_the_verdict_bytes() {
+    let traces: [&[u8]; 2] = [b"111\n110\n010\n", b"110\n"];
+    let line = {
+        let ([(_, of_flywheel), (_, of_handle)], _) = runs_of_g(traces);
+        assert_eq!((of_flywheel, of_handle), ([0, 1, 0, 5], [1, 5, 5, 5]));
+        first_broken(3, traces[0], traces[1], &of_flywheel[..3], &of_handle[..1])
+    };
+    assert_eq!(line, Ok(&b"110"[..]));
+    assert_eq!(line.unwrap().as_ptr(), traces[1].as_ptr());
+}
+
+/// One slice may be lent twice, since nothing is written to it.
+#[test]
+fn one_trace_as_both() {
+    let part = broken_line(2, F, F, &[0, 1, 0], &[0, 0, 1]);
+    let due = Part {
+        trace: Trace::Flywheel,
+        offset: 3,
+        length: 2,
+    };
+    assert_eq!(part, due);
+    let part = broken_line(2, F, F, &[0, 0, 1], &[0, 1, 0]);
+    let due = Part {
+        trace: Trace::Handle,
+        ..due
+    };
+    assert_eq!(part, due);
 }
 
 /// A netlist of one input and a latch for each reset, whose output is the input.

@@ -1,11 +1,12 @@
-//! Document 01, as No. 2 of document 02 changes it, and No. 8 of document 02, once more
-//! in plain safe Rust, written from their sentences alone.
+//! Document 01, as No. 2 of document 02 changes it, and Nos. 8 and 12 of document 02,
+//! once more in plain safe Rust, written from their sentences alone.
 //!
 //! Nothing here is proved and nothing is meant to be fast: each module follows
 //! the documents' wording closely enough to be read beside it. The proved
 //! library is compared with this crate by the program `differential`.
 
 mod aiger;
+mod broken;
 mod builder;
 mod formula;
 mod graph;
@@ -17,8 +18,10 @@ mod refusal;
 mod simulator;
 #[cfg(test)]
 mod testing;
+mod trace;
 
 pub use aiger::{read, write};
+pub use broken::{broken_check, first_broken, Part, Trace};
 pub use builder::{build, formula_of_gates};
 pub use formula::{Formula, Operator};
 pub use graph::{Atom, Edge, Graph};

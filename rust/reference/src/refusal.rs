@@ -23,6 +23,8 @@ pub enum Cause {
     NoNetlist = 16,
     TallyFull = 17,
     NoRate = 21,
+    VerdictsWrong = 25,
+    WidthOutOfRange = 26,
 }
 
 /// "Every refusal returns its number and a line"; line 0 where no line is at fault.

@@ -1,10 +1,9 @@
 //! The simulator: start, step and run over 64 lanes.
 
-use crate::lines::lines;
 use crate::netlist::{Literal, Netlist, Reset};
 use crate::refusal::{check_buffer, check_size, Cause, Refusal};
+use crate::trace::{cycles_of, is_cycle, MAX_TRACE_BYTES};
 
-const MAX_TRACE_BYTES: usize = 1_048_576;
 const ALL_LANES: u64 = u64::MAX;
 
 #[derive(Clone, Copy, Debug, Default, PartialEq, Eq)]
@@ -55,7 +54,7 @@ pub fn step(
     tally: &mut Tally,
 ) -> Result<u64, Refusal> {
     let netlist = lent_netlist(net)?;
-    if !is_cycle(&netlist, cycle) {
+    if !is_cycle(netlist.header.inputs as usize, cycle) {
         return Err(Cause::CycleWrong.at(1));
     }
     check_words(&netlist, latches, values)?;
@@ -74,7 +73,7 @@ pub fn run(
 ) -> Result<Verdict, Refusal> {
     check_size(trace, MAX_TRACE_BYTES)?;
     let netlist = lent_netlist(net)?;
-    let cycles = cycles_of(&netlist, trace)?;
+    let cycles = cycles_of(netlist.header.inputs as usize, trace)?;
     check_words(&netlist, latches, values)?;
     check_buffer(verdicts, cycles.len())?;
     check_tally(tally, cycles.len())?;
@@ -92,22 +91,6 @@ pub fn run(
 
 fn lent_netlist(net: &[u16]) -> Result<Netlist, Refusal> {
     Netlist::from_numbers(net).ok_or(Cause::NoNetlist.no_line())
-}
-
-/// "I bytes `0` or `1`."
-fn is_cycle(netlist: &Netlist, cycle: &[u8]) -> bool {
-    cycle.len() == netlist.header.inputs as usize
-        && cycle.iter().all(|byte| matches!(byte, b'0' | b'1'))
-}
-
-/// "A trace: lines of I bytes, each ended by LF."
-fn cycles_of<'a>(netlist: &Netlist, trace: &'a [u8]) -> Result<Vec<&'a [u8]>, Refusal> {
-    lines(trace)
-        .map(|line| match line.ended && is_cycle(netlist, line.bytes) {
-            true => Ok(line.bytes),
-            false => Err(Cause::CycleWrong.at(line.number)),
-        })
-        .collect()
 }
 
 fn check_words(netlist: &Netlist, latches: &[u64], values: &[u64]) -> Result<(), Refusal> {

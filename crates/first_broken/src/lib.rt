@@ -25,9 +25,13 @@ pub fn first_broken<'a>(
     handle_verdicts: &[u8],
 ) -> &'a [u8]
     ensures { λ r. ⌜ part (r .ptr) (now r)
-        ≡ brokenPart (foundOf width (record { trace = now (flywheel .entry); verdicts = now («flywheel_verdicts» .entry) }) (record { trace = now (handle .entry); verdicts = now («handle_verdicts» .entry) }))
+        ≡ brokenPart (foundOf width
+        (record { trace = now (flywheel .entry); verdicts = now («flywheel_verdicts» .entry) })
+        (record { trace = now (handle .entry); verdicts = now («handle_verdicts» .entry) }))
         (part (flywheel .entry .ptr) (now (flywheel .entry))) (part (handle .entry .ptr) (now (handle .entry))) ⌝ }
-    ensures first { λ r. ⌜ BrokenFirst width (record { trace = now (flywheel .entry); verdicts = now («flywheel_verdicts» .entry) }) (record { trace = now (handle .entry); verdicts = now («handle_verdicts» .entry) })
+    ensures first { λ r. ⌜ BrokenFirst width
+        (record { trace = now (flywheel .entry); verdicts = now («flywheel_verdicts» .entry) })
+        (record { trace = now (handle .entry); verdicts = now («handle_verdicts» .entry) })
         (StandsIn (r .ptr) (now r) (flywheel .entry .ptr)) (StandsIn (r .ptr) (now r) (handle .entry .ptr)) ⌝ }
 {
     let found = find(width, flywheel, handle, flywheel_verdicts, handle_verdicts);

@@ -99,8 +99,13 @@ pub fn find(
     flywheel_verdicts: &[u8],
     handle_verdicts: &[u8],
 ) -> Found
-    ensures { λ r. ⌜ r ≡ foundOf width (record { trace = now (flywheel .entry); verdicts = now («flywheel_verdicts» .entry) }) (record { trace = now (handle .entry); verdicts = now («handle_verdicts» .entry) }) ⌝ }
-    ensures first { λ r. ⌜ BrokenFirst width (record { trace = now (flywheel .entry); verdicts = now («flywheel_verdicts» .entry) }) (record { trace = now (handle .entry); verdicts = now («handle_verdicts» .entry) }) (FoundIn r false) (FoundIn r true) ⌝ }
+    ensures { λ r. ⌜ r ≡ foundOf width
+        (record { trace = now (flywheel .entry); verdicts = now («flywheel_verdicts» .entry) })
+        (record { trace = now (handle .entry); verdicts = now («handle_verdicts» .entry) }) ⌝ }
+    ensures first { λ r. ⌜ BrokenFirst width
+        (record { trace = now (flywheel .entry); verdicts = now («flywheel_verdicts» .entry) })
+        (record { trace = now (handle .entry); verdicts = now («handle_verdicts» .entry) })
+        (FoundIn r false) (FoundIn r true) ⌝ }
 {
     let checked = check(width, flywheel, handle, flywheel_verdicts, handle_verdicts);
     match checked {

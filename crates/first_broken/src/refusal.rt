@@ -76,8 +76,13 @@ pub fn check(
     flywheel_verdicts: &[u8],
     handle_verdicts: &[u8],
 ) -> Checked
-    ensures { λ r. ⌜ r ≡ checkOf width (record { trace = now (flywheel .entry); verdicts = now («flywheel_verdicts» .entry) }) (record { trace = now (handle .entry); verdicts = now («handle_verdicts» .entry) }) ⌝ }
-    ensures checks { λ r. ⌜ CheckMeans width (record { trace = now (flywheel .entry); verdicts = now («flywheel_verdicts» .entry) }) (record { trace = now (handle .entry); verdicts = now («handle_verdicts» .entry) }) (RefusedFor r) (r ≡ Fine) ⌝ }
+    ensures { λ r. ⌜ r ≡ checkOf width
+        (record { trace = now (flywheel .entry); verdicts = now («flywheel_verdicts» .entry) })
+        (record { trace = now (handle .entry); verdicts = now («handle_verdicts» .entry) }) ⌝ }
+    ensures checks { λ r. ⌜ CheckMeans width
+        (record { trace = now (flywheel .entry); verdicts = now («flywheel_verdicts» .entry) })
+        (record { trace = now (handle .entry); verdicts = now («handle_verdicts» .entry) })
+        (RefusedFor r) (r ≡ Fine) ⌝ }
 {
     if flywheel.len() > MAX_TRACE {
         return Checked::Refused(Cause::TraceTooLong);

@@ -211,8 +211,13 @@ pub extern "C" fn ludo_broken_check(
     flywheel_verdicts: &[u8],
     handle_verdicts: &[u8],
 ) -> u64
-    ensures { λ r. ⌜ r ≡ brokenCheckCall width (record { trace = now (flywheel .entry); verdicts = now («flywheel_verdicts» .entry) }) (record { trace = now (handle .entry); verdicts = now («handle_verdicts» .entry) }) ⌝ }
-    ensures checks { λ r. ⌜ CallChecks width (record { trace = now (flywheel .entry); verdicts = now («flywheel_verdicts» .entry) }) (record { trace = now (handle .entry); verdicts = now («handle_verdicts» .entry) }) r ⌝ }
+    ensures { λ r. ⌜ r ≡ brokenCheckCall width
+        (record { trace = now (flywheel .entry); verdicts = now («flywheel_verdicts» .entry) })
+        (record { trace = now (handle .entry); verdicts = now («handle_verdicts» .entry) }) ⌝ }
+    ensures checks { λ r. ⌜ CallChecks width
+        (record { trace = now (flywheel .entry); verdicts = now («flywheel_verdicts» .entry) })
+        (record { trace = now (handle .entry); verdicts = now («handle_verdicts» .entry) })
+        r ⌝ }
 {
     let checked = first_broken::check(
         width as usize,
@@ -250,8 +255,12 @@ pub extern "C" fn ludo_broken_line(
     length: &mut u64,
 ) -> u64
     ensures { λ r. ⌜ brokenLineEnd r (now (trace .exit)) (now (offset .exit)) (now (length .exit))
-        ≡ brokenLineCall width (record { trace = now (flywheel .entry); verdicts = now («flywheel_verdicts» .entry) }) (record { trace = now (handle .entry); verdicts = now («handle_verdicts» .entry) }) ⌝ }
-    ensures first { λ r. ⌜ CallFinds width (record { trace = now (flywheel .entry); verdicts = now («flywheel_verdicts» .entry) }) (record { trace = now (handle .entry); verdicts = now («handle_verdicts» .entry) })
+        ≡ brokenLineCall width
+        (record { trace = now (flywheel .entry); verdicts = now («flywheel_verdicts» .entry) })
+        (record { trace = now (handle .entry); verdicts = now («handle_verdicts» .entry) }) ⌝ }
+    ensures first { λ r. ⌜ CallFinds width
+        (record { trace = now (flywheel .entry); verdicts = now («flywheel_verdicts» .entry) })
+        (record { trace = now (handle .entry); verdicts = now («handle_verdicts» .entry) })
         r (now (trace .exit)) (now (offset .exit)) (now (length .exit)) ⌝ }
 {
     let found = first_broken::find(

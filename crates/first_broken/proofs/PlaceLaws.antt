@@ -21,7 +21,7 @@ use Rattle.first_broken.specs.Refusals.{Measurement, checkOf}
 use Rattle.first_broken.specs.Places.{isRejected, brokenFrom, brokenOf, beginning, cycleLine, lineOf, foundAs, foundOf, Part, part, cut, brokenPart}
 use Rattle.first_broken.specs.Claims.{LineAt, Accepts, BrokenFirst, FoundIn, StandsIn}
 use Rattle.first_broken.specs.Claims.BrokenFirst.{flywheel-broke, handle-broke, neither-broke, refused}
-use Rattle.first_broken.proofs.RefusalLaws.{is-trace, Ready, ready}
+use Rattle.first_broken.proofs.RefusalLaws.{is-trace, Whole, Ready, ready}
 use Rattle.first_broken.proofs.LineLaws.{line-at, line-within}
 
 -- ---- the search
@@ -144,20 +144,21 @@ neither f h none k = go (leb (max (length f) (length h)) k) refl
     go true e = let l = leb-true (max (length f) (length h)) k e in (past f k (omega (arith, le-max-left (length f) (length h))), past h k (omega (arith, le-max-right (length f) (length h))))
     go false e = none k (omega arith) (omega (arith, leb-false (max (length f) (length h)) k e))
 
+-- ---- the line of a rejected cycle
+module _ (width : ℕ) (m : Measurement) (w : Whole width m) (n : ℕ) (e : isRejected (m .verdicts) n ≡ true) where
+  among : n < length (cyclesOf width (m .trace))
+  among = rw (← w .verdicts .count) (rejected-within (m .verdicts) n e)
+
+  rejected-line : LineAt width n (m .trace) (n * (width + 1)) (take width (drop (n * (width + 1)) (m .trace)))
+  rejected-line = line-at width (m .trace) (cyclesOf width (m .trace)) (is-trace width (m .trace) (w .faultless)) n among
+
+  rejected-ends : n * (width + 1) + width ≤ length (m .trace)
+  rejected-ends = line-within width (m .trace) (cyclesOf width (m .trace)) (is-trace width (m .trace) (w .faultless)) n among
+
 -- ---- the part, whatever an answer says of it
 module _ (width : ℕ) (f h : Measurement) where
-  module _ (r : Ready width f h) where
-    -- the line of a rejected cycle
-    flywheel-line : (n : ℕ) → isRejected (f .verdicts) n ≡ true → LineAt width n (f .trace) (n * (width + 1)) (take width (drop (n * (width + 1)) (f .trace)))
-    flywheel-line n e =
-        line-at width (f .trace) (cyclesOf width (f .trace)) (is-trace width (f .trace) (r .flywheel-trace)) n (rw (← r .flywheel-judged .count) (rejected-within (f .verdicts) n e))
-
-    handle-line : (n : ℕ) → isRejected (h .verdicts) n ≡ true → LineAt width n (h .trace) (n * (width + 1)) (take width (drop (n * (width + 1)) (h .trace)))
-    handle-line n e =
-        line-at width (h .trace) (cyclesOf width (h .trace)) (is-trace width (h .trace) (r .handle-trace)) n (rw (← r .handle-judged .count) (rejected-within (h .verdicts) n e))
-
-    accepts : (k : ℕ) → Neither (f .verdicts) (h .verdicts) k → Accepts f h k
-    accepts k e = (accepted-byte (f .verdicts) k (r .flywheel-judged .bits k) (e .0), accepted-byte (h .verdicts) k (r .handle-judged .bits k) (e .1))
+  accepts : Ready width f h → (k : ℕ) → Neither (f .verdicts) (h .verdicts) k → Accepts f h k
+  accepts r k e = (accepted-byte (f .verdicts) k (r .flywheel .verdicts .bits k) (e .0), accepted-byte (h .verdicts) k (r .handle .verdicts .bits k) (e .1))
 
   module _ (OfFlywheel OfHandle : ℕ → List ℕ → Type 0) where
     -- an answer that is the part of which found tells
@@ -173,11 +174,11 @@ module _ (width : ℕ) (f h : Measurement) where
     broken e b (nowhere is none) p = neither-broke (rw is at p) e (λ k. accepts (ready width f h e) k (neither (f .verdicts) (h .verdicts) none k))
     broken e b (flywheel-first m is l t none) p =
         let r = ready width f h e in
-        flywheel-broke m (m * (width + 1)) _ (rw is at p) (flywheel-line r m t) e (rejected-byte (f .verdicts) m t) (λ k a. accepts r k (none k (omega arith) a))
+        flywheel-broke m (m * (width + 1)) _ (rw is at p) (rejected-line width f (r .flywheel) m t) e (rejected-byte (f .verdicts) m t) (λ k a. accepts r k (none k (omega arith) a))
     broken e b (handle-first m is l t u none) p =
         let r = ready width f h e in
-        handle-broke m (m * (width + 1)) _ (rw is at p) (handle-line r m u) e (rejected-byte (h .verdicts) m u)
-        (accepted-byte (f .verdicts) m (r .flywheel-judged .bits m) t) (λ k a. accepts r k (none k (omega arith) a))
+        handle-broke m (m * (width + 1)) _ (rw is at p) (rejected-line width h (r .handle) m u) e (rejected-byte (h .verdicts) m u)
+        (accepted-byte (f .verdicts) m (r .flywheel .verdicts .bits m) t) (λ k a. accepts r k (none k (omega arith) a))
 
     pub breaks : Placed (foundOf width f h) → BrokenFirst width f h OfFlywheel OfHandle
     unfolding foundOf foundAs lineOf cycleLine beginning
@@ -201,12 +202,8 @@ module _ (width : ℕ) (f h : Measurement) where
       → lineOf width b .at + lineOf width b .length ≤ length (traceOf (lineOf width b))
   unfolding lineOf cycleLine beginning
   line-of-within e b (nowhere is none) = rw is (omega arith)
-  line-of-within e b (flywheel-first m is l t none) =
-      let r = ready width f h e in
-      rw is (line-within width (f .trace) (cyclesOf width (f .trace)) (is-trace width (f .trace) (r .flywheel-trace)) m (rw (← r .flywheel-judged .count) (rejected-within (f .verdicts) m t)))
-  line-of-within e b (handle-first m is l t u none) =
-      let r = ready width f h e in
-      rw is (line-within width (h .trace) (cyclesOf width (h .trace)) (is-trace width (h .trace) (r .handle-trace)) m (rw (← r .handle-judged .count) (rejected-within (h .verdicts) m u)))
+  line-of-within e b (flywheel-first m is l t none) = rw is (rejected-ends width f (ready width f h e .flywheel) m t)
+  line-of-within e b (handle-first m is l t u none) = rw is (rejected-ends width h (ready width f h e .handle) m u)
 
   pub found-within : (found : Found) → found ≡ foundOf width f h → found .at + found .length ≤ length (traceOf found)
   unfolding foundOf foundAs lineOf cycleLine beginning
@@ -223,8 +220,8 @@ module _ (width : ℕ) (f h : Measurement) where
   short e found l = go (found .handle) refl
     where
       go : (b : Bool) → found .handle ≡ b → found .at + found .length ≤ 1048576
-      go true b = let w = rw b at l in omega (arith, ready width f h e .handle-short)
-      go false b = let w = rw b at l in omega (arith, ready width f h e .flywheel-short)
+      go true b = let w = rw b at l in omega (arith, ready width f h e .handle .short)
+      go false b = let w = rw b at l in omega (arith, ready width f h e .flywheel .short)
 
   pub found-small : (found : Found) → found ≡ foundOf width f h → found .at + found .length ≤ 1048576
   unfolding foundOf foundAs lineOf cycleLine beginning

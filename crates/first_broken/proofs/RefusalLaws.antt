@@ -133,15 +133,16 @@ module _ (width : ℕ) (f h : Measurement) where
             (rw (sized, none, none′, a, b), fine _ _ refl s (is-trace width (f .trace) none) (is-trace width (h .trace) none′) (judged width f a) (judged width h b))
 
 -- ---- what a session has that is refused nothing
+-- each of its measurements
+pub record Whole (width : ℕ) (m : Measurement) : Type 0 where
+  pub short : length (m .trace) ≤ 1048576
+  pub faultless : faultOf width (m .trace) ≡ 0
+  pub verdicts : Judged (cyclesOf width (m .trace)) (m .verdicts)
+
 pub record Ready (width : ℕ) (f h : Measurement) : Type 0 where
-  pub some : 1 ≤ width
   pub most : width ≤ 64
-  pub flywheel-trace : faultOf width (f .trace) ≡ 0
-  pub handle-trace : faultOf width (h .trace) ≡ 0
-  pub flywheel-short : length (f .trace) ≤ 1048576
-  pub handle-short : length (h .trace) ≤ 1048576
-  pub flywheel-judged : Judged (cyclesOf width (f .trace)) (f .verdicts)
-  pub handle-judged : Judged (cyclesOf width (h .trace)) (h .verdicts)
+  pub flywheel : Whole width f
+  pub handle : Whole width h
 
 -- a test that passed, and those that follow it
 passed : (a : Bool) (cause : Cause) (c : Checked) → cond (not a) (Refused cause) c ≡ Fine → (a ≡ true) × (c ≡ Fine)
@@ -162,24 +163,14 @@ ready width f h e =
     let wide = and-both (leb 1 width) (leb width 64) (b .0) in
     let judges = and-both (isJudged width f) (isJudged width h) (v .0) in
     record {
-      some = leb-true 1 width (wide .0);
       most = leb-true width 64 (wide .1);
-      flywheel-trace = eqb-true first 0 (c .0);
-      handle-trace = eqb-true second 0 (d .0);
-      flywheel-short = leb-true _ _ (short .0);
-      handle-short = leb-true _ _ (short .1);
-      flywheel-judged = judged width f (judges .0);
-      handle-judged = judged width h (judges .1);
+      flywheel = record { short = leb-true _ _ (short .0); faultless = eqb-true first 0 (c .0); verdicts = judged width f (judges .0) };
+      handle = record { short = leb-true _ _ (short .1); faultless = eqb-true second 0 (d .0); verdicts = judged width h (judges .1) };
     }
 
 -- there are no more verdict bytes than bytes of the trace
-few : (width : ℕ) (m : Measurement) → Judged (cyclesOf width (m .trace)) (m .verdicts) → length (m .trace) ≤ 1048576 → length (m .verdicts) ≤ 1048576
+pub few : (width : ℕ) (m : Measurement) → Whole width m → length (m .verdicts) ≤ 1048576
 unfolding lineCount
-few width m j l = let e = j .count ∙ length-cycles width (m .trace) in le-trans (le-of-eq e) (le-trans (div-le-self (length (m .trace)) (width + 1)) l)
-
-module _ (width : ℕ) (f h : Measurement) (e : checkOf width f h ≡ Fine) where
-  pub flywheel-few : length (f .verdicts) ≤ 1048576
-  flywheel-few = let r = ready width f h e in few width f (r .flywheel-judged) (r .flywheel-short)
-
-  pub handle-few : length (h .verdicts) ≤ 1048576
-  handle-few = let r = ready width f h e in few width h (r .handle-judged) (r .handle-short)
+few width m w =
+    let e = w .verdicts .count ∙ length-cycles width (m .trace) in
+    le-trans (le-of-eq e) (le-trans (div-le-self (length (m .trace)) (width + 1)) (w .short))

@@ -1,7 +1,7 @@
 -- `first_broken::places::find` meets its contract: it goes by what check answers. Assumes nothing.
 use mathlib.Core.Path.{sym, _∙_}
 use borrow.Author.Needs.{needs}
-use Rattle.first_broken.proofs.RefusalLaws.{ready, flywheel-few, handle-few}
+use Rattle.first_broken.proofs.RefusalLaws.{ready, few}
 use Rattle.first_broken.proofs.PlaceLaws.{found-fine, found-refused, found-first}
 use Rattle.first_broken.proofs.places.find.Statement.{statement}
 use Rattle.first_broken.proofs.places.find.Tie as tie
@@ -14,8 +14,8 @@ enum-told c = search needs
 
 line-of-requires : tie.Need-line-of-requires
 line-of-requires c κs =
-    let e = sym (c .before .before .check .ensures .0) ∙ c .enum-told .given .1 in
-    (ready _ _ _ e .most, flywheel-few _ _ _ e, handle-few _ _ _ e)
+    let r = ready _ _ _ (sym (c .before .before .check .ensures .0) ∙ c .enum-told .given .1) in
+    (r .most, few _ _ (r .flywheel), few _ _ (r .handle))
 
 enum-told-2 : tie.Need-enum-told-2
 enum-told-2 c = search needs

@@ -1,6 +1,6 @@
 /* Ludopoplar: monitor circuits of assertion graphs. Builds the circuit of a graph text, writes and reads
-   circuits as AIGER files, runs them cycle by cycle, tells rejections in a million cycles, and finds the line
-   that was rejected first in the two traces of a session.
+   circuits as AIGER files, runs them cycle by cycle, tells rejections in a million cycles, finds the line that
+   was rejected first in the two traces of a session, and lays the verdicts of a run out as a page for the wall.
 
    Link with libludopoplar.a (x86-64 Linux). It needs memcpy and memset of the C library and nothing else.
 
@@ -20,7 +20,8 @@
      ludo_broken_line is never refused: every call of it returns 0 and writes its three results.
 
       number  line   cause
-        1     0      text too long: graph over 32,768 bytes, AIGER over 65,536, trace over 1,048,576
+        1     0      too long: graph over 32,768 bytes, AIGER over 65,536, trace over 1,048,576; session page:
+                     more than 524,288 verdicts
         2     its    graph: line of no record's shape, or last line without LF
         3     its    graph: kind of record out of order
         4     its    graph: one record too many
@@ -38,12 +39,14 @@
        16     0      the numbers are no netlist
        17     0      the tally would pass 4,294,967,295
        21     0      tally: no cycle, or more rejected than cycles
+       22     0      session page: graph name not of 1 to 24 letters, digits or _, or a verdict above 1
        25     0      verdicts: not one byte for each line of their trace, or a byte above 1
        26     0      width of lines outside 1 to 64
 
      Lines count from 1; the first faulty line decides, and in it the lower number. Build checks 1, the lines,
      10, 11, 12; read 1, the lines, 12; write and start 16, 12; step 16, 15, 12, 17; run 1, then as step; per
-     million 21; broken check 1 of either trace, 26, 15 of the flywheel trace, 15 of the handle trace, 25.
+     million 21; broken check 1 of either trace, 26, 15 of the flywheel trace, 15 of the handle trace, 25;
+     session page 1, 22, 12.
 
    Netlist: uint16_t numbers, 5 + 2L + 1 + 2A of them, at most 8,194
      M I L O A               highest variable, inputs, latches, outputs, AND gates
@@ -136,6 +139,22 @@ uint64_t ludo_broken_line(uint64_t width, const uint8_t *flywheel, size_t flywhe
                           const uint8_t *flywheel_verdicts, size_t flywheel_verdicts_len,
                           const uint8_t *handle_verdicts, size_t handle_verdicts_len,
                           uint64_t *trace, uint64_t *offset, uint64_t *length);
+
+/* Lays the verdicts of a run out as a page for the wall; `*length` is its number of bytes. `name` is the graph's
+   name, 1 to 24 letters, digits or _, of which any may stand first. `verdicts` has one byte a cycle, at most
+   524,288, 1 rejected or 0 accepted, as ludo_run writes them; where ludo_run was lent a longer buffer, only the
+   bytes of the cycles are lent here. Cycles count from 1.
+
+   The page has lines of 80 bytes, each ended by LF, which is not one of the 80; blanks fill up:
+     first line       the name in columns 1 to 24, left; the number of cycles in 25 to 34, right
+     further lines    the rejected cycles, rising, ten a line, each in 8 columns, right; no line with none
+     last line        the number of rejected cycles in columns 1 to 10; of its rate in a million, as in
+                      ludo_per_million, the whole part in 11 to 17 and the remainder in 18 to 27, blank where
+                      there is no cycle; all right
+   So with r rejected cycles it has 81 * (2 + (r + 9) / 10) bytes, the division rounded down: 162 with none, at
+   most 4,246,911. Other names or other verdicts give another page. */
+uint64_t ludo_session_page(const uint8_t *name, size_t name_len, const uint8_t *verdicts, size_t verdicts_len,
+                           uint8_t *page, size_t page_len, uint64_t *length);
 
 #ifdef __cplusplus
 }

@@ -4,10 +4,11 @@ use mathlib.Core.List.{List, [], _∷_}
 use Prim.Native.Nat.{ℕ, _+_}
 use Rattle.text.specs.Quoted.{bytes}
 use Rattle.trace.specs.Traces.{isBit, fitsLine, faultFrom, faultOf, lineCount}
+use Rattle.trace.specs.Verdicts.{allBits}
 use Rattle.first_broken.specs.declared.refusal.Cause.the-variants.{TraceTooLong, WrongWidth, FlywheelLine, HandleLine, WrongVerdicts}
 use Rattle.first_broken.specs.declared.refusal.Checked.{Checked}
 use Rattle.first_broken.specs.declared.refusal.Checked.the-variants.{Fine, Refused}
-use Rattle.first_broken.specs.Refusals.{Measurement, refusalOf, isShort, isWidth, allBits, areVerdicts, isJudged, checkOf}
+use Rattle.first_broken.specs.Refusals.{Measurement, refusalOf, isShort, isWidth, areVerdicts, isJudged, checkOf}
 use Rattle.first_broken.specs.Places.{isRejected, brokenFrom, brokenOf, beginning, cycleLine, lineOf, foundAs, foundOf, Part, part, cut, brokenPart}
 
 -- the traces of the request's page

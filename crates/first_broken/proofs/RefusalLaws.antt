@@ -13,44 +13,19 @@ use lib.Seq.{drop-cons}
 use borrow.Author.Tests.{eqb-true, leb-true, eq-eqb, ne-eqb, le-leb, lt-leb}
 use Rattle.text.proofs.NumberLaws.{and-both}
 use Rattle.trace.specs.Traces.{faultOf, lineCount, cyclesOf}
+use Rattle.trace.specs.Verdicts.{allBits}
 use Rattle.trace.proofs.TraceLaws.{length-cycles}
+use Rattle.trace.proofs.VerdictLaws.{bits, all-bits}
 use Rattle.trace.proofs.LineLaws.{trace-means}
 use Rattle.first_broken.specs.declared.refusal.Cause.{Cause}
 use Rattle.first_broken.specs.declared.refusal.Cause.the-variants.{TraceTooLong, WrongWidth, FlywheelLine, HandleLine, WrongVerdicts}
 use Rattle.first_broken.specs.declared.refusal.Checked.{Checked}
 use Rattle.first_broken.specs.declared.refusal.Checked.the-variants.{Fine, Refused}
-use Rattle.first_broken.specs.Refusals.{Measurement, refusalOf, isShort, isWidth, allBits, areVerdicts, isJudged, checkOf}
+use Rattle.first_broken.specs.Refusals.{Measurement, refusalOf, isShort, isWidth, areVerdicts, isJudged, checkOf}
 use Rattle.first_broken.specs.Claims.{Short, Sized, IsTrace, Judged, CheckMeans, RefusedFor}
 use Rattle.first_broken.specs.Claims.CheckMeans.{too-long, wrong-width, flywheel-line, handle-line, wrong-verdicts, fine}
 
 -- ---- verdict bytes
--- every byte is a bit, past the end too
-bits : (v : List ℕ) → allBits v ≡ true → (k : ℕ) → getD v k 0 ≤ 1
-unfolding allBits
-bits [] e k = omega arith
-bits (b ∷ v) e zero = leb-true b 1 (and-both (leb b 1) (allBits v) e .0)
-bits (b ∷ v) e (suc k) = bits v (and-both (leb b 1) (allBits v) e .1) k
-
-all-bits : (v : List ℕ) → ((k : ℕ) → getD v k 0 ≤ 1) → allBits v ≡ true
-unfolding allBits
-all-bits [] h = refl
-all-bits (b ∷ v) h = rw (le-leb b 1 (h 0), all-bits v (λ k. h (suc k)))
-
--- what is left of the bytes has one above 1 where the whole has
-module _ (v : List ℕ) (k : ℕ) where
-  pub bits-end : length v ≤ k → allBits (drop k v) ≡ true
-  unfolding allBits
-  bits-end l = rw (drop-of-length-le v l)
-
-  module _ (l : k < length v) where
-    pub bits-here : 1 < getD v k 0 → allBits (drop k v) ≡ false
-    unfolding allBits
-    bits-here h = rw (drop-cons v k 0 l, lt-leb (getD v k 0) 1 h)
-
-    pub bits-next : getD v k 0 ≤ 1 → allBits (drop k v) ≡ allBits (drop (k + 1) v)
-    unfolding allBits
-    bits-next h = rw (add-one k, drop-cons v k 0 l, le-leb (getD v k 0) 1 h)
-
 module _ (width : ℕ) (m : Measurement) where
   pub judged : isJudged width m ≡ true → Judged (cyclesOf width (m .trace)) (m .verdicts)
   unfolding isJudged areVerdicts

@@ -1,12 +1,13 @@
 -- What the calls are given, and when they refuse it (document 02, No. 12). A session is measured twice, at the flywheel
 -- and at the handle. The first test that fails decides. Assumes nothing.
-use mathlib.Core.Bool.{Bool, true, cond, not, _&&_}
-use mathlib.Core.List.{List, [], _∷_}
+use mathlib.Core.Bool.{Bool, cond, not, _&&_}
+use mathlib.Core.List.{List}
 use Prim.Native.Nat.{ℕ}
 use lib.Dec.{eqb, leb}
 use lib.ListN.{length}
 use Rattle.text.specs.declared.Refusal.{Refusal}
 use Rattle.trace.specs.Traces.{faultOf, lineCount}
+use Rattle.trace.specs.Verdicts.{allBits}
 use Rattle.first_broken.specs.declared.refusal.Cause.{Cause}
 use Rattle.first_broken.specs.declared.refusal.Cause.the-variants.{TraceTooLong, WrongWidth, FlywheelLine, HandleLine, WrongVerdicts}
 use Rattle.first_broken.specs.declared.refusal.Checked.{Checked}
@@ -33,11 +34,6 @@ isShort trace = leb (length trace) 1048576
 -- "lines of one stated width, 1 to 64"
 unfoldable pub isWidth : ℕ → Bool
 isWidth width = leb 1 width && leb width 64
-
--- no byte above 1
-unfoldable pub allBits : List ℕ → Bool
-allBits [] = true
-allBits (b ∷ bytes) = leb b 1 && allBits bytes
 
 -- as many bytes as there are cycles, "holding" none "above 1"
 unfoldable pub areVerdicts : List ℕ → ℕ → Bool

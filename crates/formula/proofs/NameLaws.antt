@@ -28,7 +28,7 @@ name-long (b ∷ s) h = rw (lt-leb (length s) 14 (omega arith)) (go (isLetter (c
     go true = refl
     go false = refl
 
-all-run : (s : List ℕ) → nameBytes s ≡ eqb (run s) (length s)
+pub all-run : (s : List ℕ) → nameBytes s ≡ eqb (run s) (length s)
 unfolding nameBytes run
 all-run [] = refl
 all-run (b ∷ s) = go (inName b) (all-run s)

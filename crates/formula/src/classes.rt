@@ -358,7 +358,7 @@ pub(crate) fn start_of(b: u8) -> Start
 }
 
 // The place after the name bytes that stand at a place and on.
-pub(crate) fn name_end(s: &[u8], at: usize) -> usize
+pub fn name_end(s: &[u8], at: usize) -> usize
     ensures { λ r. ⌜ r ≡ at + run (drop at (now (s .entry))) ⌝ }
 {
     let mut i = at;

@@ -13,6 +13,7 @@ mod readers;
 
 pub use classes::class_of;
 pub use classes::is_name;
+pub use classes::name_end;
 pub use classes::strength;
 use readers::Read;
 

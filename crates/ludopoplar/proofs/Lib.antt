@@ -2,3 +2,4 @@
 mod NumberLaws
 mod RateLaws
 mod SessionLaws
+mod PageLaws

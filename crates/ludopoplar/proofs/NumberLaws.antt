@@ -27,6 +27,9 @@ use Rattle.rate.specs.Rates as rates
 use Rattle.first_broken.specs.declared.refusal.Cause as broken
 use Rattle.first_broken.specs.declared.refusal.Cause.the-variants as checked
 use Rattle.first_broken.specs.Refusals as sessions
+use Rattle.session_page.specs.declared.Cause as page
+use Rattle.session_page.specs.declared.Cause.the-variants as laid
+use Rattle.session_page.specs.LayOut as pages
 use Rattle.ludopoplar.specs.Codes.{codeOf}
 use Rattle.ludopoplar.specs.Claims.{Numbered}
 
@@ -85,6 +88,12 @@ checks (checked.FlywheelLine line) = omega arith
 checks (checked.HandleLine line) = omega arith
 checks checked.WrongVerdicts = omega arith
 
+lays : (cause : page.Cause) → 1 ≤ pages.refusalOf cause .number
+unfolding pages.refusalOf
+lays laid.TooManyCycles = omega arith
+lays laid.ShortBuffer = omega arith
+lays laid.NotPrintable = omega arith
+
 number-back : (r : Refusal) → r .line < 4294967296 → codeOf r / 4294967296 ≡ r .number
 unfolding codeOf
 number-back r h = omega arith
@@ -102,6 +111,7 @@ numbered =
       run-numbered = starts;
       rate-numbered = rates-numbered;
       check-numbered = checks;
+      page-numbered = lays;
       number-told = number-back;
       line-told = line-back;
     }

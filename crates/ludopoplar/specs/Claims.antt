@@ -1,6 +1,7 @@
 -- What the contracts of the C interface claim. Assumes nothing.
 use mathlib.Core.Path.{_≡_}
 use mathlib.Core.Logic.{_⊎_}
+use mathlib.Core.List.{List}
 use Prim.Native.Nat.{ℕ, _+_, _*_, _^_, _≤_, _<_, _/_, _%_}
 use lib.ListN.{length}
 use Rattle.text.specs.declared.Refusal.{Refusal}
@@ -19,6 +20,9 @@ use Rattle.first_broken.specs.declared.refusal.Cause as broken
 use Rattle.first_broken.specs.Refusals as sessions
 use Rattle.first_broken.specs.Refusals.{Measurement}
 use Rattle.first_broken.specs.Claims.{CheckMeans, BrokenFirst}
+use Rattle.session_page.specs.declared.Cause as page
+use Rattle.session_page.specs.LayOut as pages
+use Rattle.session_page.specs.Claims.{LaysOut, GivenTells}
 use Rattle.ludopoplar.specs.Codes.{codeOf}
 use Rattle.ludopoplar.specs.Rates.{RateCallEnd, rateCallEnd}
 
@@ -30,6 +34,7 @@ pub record Numbered : Type 0 where
   pub run-numbered : (cause : simulator.Cause) → 1 ≤ runs.refusalOf cause .number
   pub rate-numbered : (cause : rate.Cause) → 1 ≤ rates.refusalOf cause .number
   pub check-numbered : (cause : broken.Cause) → 1 ≤ sessions.refusalOf cause .number
+  pub page-numbered : (cause : page.Cause) → 1 ≤ pages.refusalOf cause .number
   -- 4,294,967,296 is 2^32
   pub number-told : (r : Refusal) → r .line < 4294967296 → codeOf r / 4294967296 ≡ r .number
   pub line-told : (r : Refusal) → r .line < 4294967296 → codeOf r % 4294967296 ≡ r .line
@@ -53,3 +58,13 @@ CallFinds width flywheel handle code trace offset count =
     BrokenFirst width flywheel handle
     (λ at line. (code ≡ 0) × (trace ≡ 0) × (offset ≡ at) × (count ≡ length line))
     (λ at line. (code ≡ 0) × (trace ≡ 1) × (offset ≡ at) × (count ≡ length line))
+
+-- ---- document 02, No. 9: what lay_out claims of its answer, of a call that found `before` in the lent buffer and `was`
+-- behind its pointer, and left `after` and `length`
+abbrev pub CallLays : List ℕ → List ℕ → List ℕ → List ℕ → ℕ → ℕ → ℕ → Type 0
+CallLays name verdicts before after code was length =
+    LaysOut name verdicts before after (λ cause number line. (code ≡ number * 2 ^ 32 + line) × (length ≡ was)) (λ n. (code ≡ 0) × (length ≡ n))
+
+-- and of a call that gave a page of so many bytes
+abbrev pub CallTells : List ℕ → List ℕ → List ℕ → ℕ → ℕ → Type 0
+CallTells name verdicts after code length = GivenTells name verdicts after (λ n. (code ≡ 0) × (length ≡ n))

@@ -4,4 +4,5 @@ pub mod Circuits
 pub mod Runs
 pub mod Rates
 pub mod Sessions
+pub mod Pages
 pub mod Claims

@@ -1,16 +1,19 @@
-// The C interface: build, write, read, start, step, run, per million, broken check and broken line as a static library
-// has them. Each function calls the one that it is named after and puts what that answers where C looks for it. It
-// returns 0 where the call is accepted, else number × 2^32 + line; results go through pointers, which a refusal leaves
-// as they were. Computes nothing itself. Exports that code, results, tally and buffers are those that their definitions
-// give; of a rate that its results are those of a division, the clause `divides` of `ludo_per_million`; of a session
-// that was measured twice what a code means and which line it is, the clauses `checks` of `ludo_broken_check` and
-// `first` of `ludo_broken_line`. `include/ludopoplar.h` declares these functions to C.
+// The C interface: build, write, read, start, step, run, per million, broken check, broken line and session page as a
+// static library has them. Each function calls the one that it is named after and puts what that answers where C looks
+// for it. It returns 0 where the call is accepted, else number × 2^32 + line; results go through pointers, which a
+// refusal leaves as they were. Computes nothing itself. Exports that code, results, tally and buffers are those that
+// their definitions give; of a rate that its results are those of a division, the clause `divides` of
+// `ludo_per_million`; of a session that was measured twice what a code means and which line it is, the clauses `checks`
+// of `ludo_broken_check` and `first` of `ludo_broken_line`; of a session page what stands in its columns and that it
+// tells graph name and verdict bytes, the clauses `lays` and `tells` of `ludo_session_page`. `include/ludopoplar.h`
+// declares these functions to C.
 use aiger::Written;
 use aiger_read::ReadOutcome;
 use builder::Built;
 use calls::Tally;
 use first_broken::Checked;
 use rate::Rated;
+use session_page::Laid;
 use simulator::RunOutcome;
 use simulator::StartOutcome;
 use simulator::StepOutcome;
@@ -19,10 +22,11 @@ use text::Refusal;
 ghost use mathlib.Core.Path.{_≡_};
 ghost use Rattle.ludopoplar.specs.Codes.{codeOf};
 ghost use Rattle.ludopoplar.specs.Circuits.{filled, buildCall, writeCall, readCall};
-ghost use Rattle.ludopoplar.specs.Claims.{Numbered, CallDivides, CallChecks, CallFinds};
+ghost use Rattle.ludopoplar.specs.Claims.{Numbered, CallDivides, CallChecks, CallFinds, CallLays, CallTells};
 ghost use Rattle.ludopoplar.specs.Runs.{verdictNumber, startCallEnd, startCall, stepCallEnd, stepCall, runCallEnd, runCall};
 ghost use Rattle.ludopoplar.specs.Rates.{rateCallEnd, rateCall};
 ghost use Rattle.ludopoplar.specs.Sessions.{brokenCheckCall, traceNumber, brokenLineEnd, brokenLineCall};
+ghost use Rattle.ludopoplar.specs.Pages.{sessionPageCall};
 
 // A call that is accepted returns this.
 const ACCEPTED: u64 = 0;
@@ -274,4 +278,26 @@ pub extern "C" fn ludo_broken_line(
     *offset = found.at as u64;
     *length = found.length as u64;
     ACCEPTED
+}
+
+// Lays out a session page.
+#[no_mangle]
+pub extern "C" fn ludo_session_page(
+    name: &[u8],
+    verdicts: &[u8],
+    page: &mut [u8],
+    length: &mut u64,
+) -> u64
+    ensures { λ r. ⌜ filled r (now (page .exit)) (now (length .exit)) ≡ sessionPageCall (now (name .entry)) (now (verdicts .entry)) (now (page .entry)) (now (length .entry)) ⌝ }
+    ensures lays { λ r. ⌜ CallLays (now (name .entry)) (now (verdicts .entry)) (now (page .entry)) (now (page .exit)) r (now (length .entry)) (now (length .exit)) ⌝ }
+    ensures tells { λ r. ⌜ CallTells (now (name .entry)) (now (verdicts .entry)) (now (page .exit)) r (now (length .exit)) ⌝ }
+{
+    let laid = session_page::lay_out(name, verdicts, page);
+    match laid {
+        Laid::Bytes(end) => {
+            *length = end as u64;
+            ACCEPTED
+        }
+        Laid::Refused(cause) => code(cause.refusal()),
+    }
 }

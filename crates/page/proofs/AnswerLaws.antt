@@ -1,67 +1,99 @@
--- What the answers of build, start and run and the buffers that they left give a page. Assumes nothing.
-use mathlib.Core.Path.{_≡_, sym, ap, _∙_}
-use mathlib.Core.Bool.{true}
-use mathlib.Core.List.{List}
-use Prim.Native.Nat.{ℕ, _≤_}
-use lib.ListN.{length, replicate}
+-- What the answers of build and of judge and the buffers that they left give a page. Assumes nothing.
+use mathlib.Core.Path.{_≡_, refl, sym, ap, _∙_}
+use mathlib.Core.Bool.{Bool, true, false, cond}
+use mathlib.Core.List.{List, [], _++_}
+use Prim.Native.Nat.{ℕ, _*_, _≤_}
+use lib.Dec.{eqb}
+use lib.ListN.{length, take, drop}
+use lib.Seq.{take-at}
 use Rattle.netlist.specs.Valid.{isNetlist}
 use Rattle.assertion.specs.Graph.{Bytes, Graph}
+use Rattle.assertion.specs.Paths.{verdicts, countRejected}
 use Rattle.graph.specs.Reading.{graphOf}
 use Rattle.circuit.specs.Numbers.{numbersOf}
 use Rattle.builder.specs.declared.Cause.{Cause}
 use Rattle.builder.specs.declared.Built.{Built}
 use Rattle.builder.specs.declared.Built.the-variants.{Gates, Refused}
-use Rattle.builder.specs.Build.{refusalOf, BuildEnd, buildEnd, buildOf}
+use Rattle.builder.specs.Build.{refusalOf, buildEnd, buildOf}
 use Rattle.builder.specs.Claims.{BuildMeans}
 use Rattle.aiger.specs.Format.{fileOf}
-use Rattle.simulator.specs.declared.outcome.Started.{Started}
-use Rattle.simulator.specs.declared.outcome.Ran.{Ran}
-use Rattle.calls.specs.Tallies.{cleared}
-use Rattle.simulator.specs.Start.{StartEnd, startEnd, startOf}
-use Rattle.simulator.specs.Run.{RunEnd, runEnd, runOf}
+use Rattle.calls.specs.declared.refusal.Cause.the-variants.{WrongLine}
+use Rattle.calls.specs.declared.tally.Tally.{Tally}
+use Rattle.calls.specs.Refusals as calls
+use Rattle.trace.specs.Traces.{faultOf, cyclesOf}
+use Rattle.simulator.specs.declared.outcome.Verdict.{Verdict}
+use Rattle.simulator.specs.Run.{verdictOf}
+use Rattle.demand.proofs.Held.{verdicts-length}
+use Rattle.judge.specs.declared.Cause.the-variants.{Trace}
+use Rattle.judge.specs.declared.Judged.{Judged}
+use Rattle.judge.specs.declared.Judged.the-variants as judged
+use Rattle.judge.specs.Judge as judge
+use Rattle.judge.specs.Judge.{inputsOf, JudgeEnd, judgeEnd, traceJudged, judgeOf}
+use Rattle.judge.proofs.BuildLaws.{build-answered, build-left}
+use Rattle.judge.proofs.EndLaws.{room-judged, judge-end}
 use Rattle.page_text.specs.Lines.{refusedLine}
-use Rattle.page.specs.Pages.{graphPage, tracePage, aigerText}
-use Rattle.page.specs.Private.Machine.{outcomePage, machineEnd, machinePage}
+use Rattle.page.specs.Pages.{graphPage, aigerText}
 use Rattle.page.proofs.LengthLaws.{aiger-fits}
-use Rattle.page.proofs.BuildLaws.{build-refused, made-netlist, made-file}
-use Rattle.page.proofs.JudgedLaws.{judged}
+use Rattle.page.proofs.BuildLaws.{told, page-end, build-refused, made-netlist, made-file}
 
 -- ---- a build into a buffer that has room for every netlist
 
 module _ (text : Bytes) {room : List ℕ} (means : BuildMeans text room) {r : Built} {net : List ℕ} (e : buildEnd r net ≡ buildOf text room)
     (enough : 8194 ≤ length room) where
-  answered : {x : Built} → r ≡ x → buildOf text room .answer ≡ x
-  answered h = sym (ap (λ (b : BuildEnd). b .answer) e) ∙ h
-
-  left : buildOf text room .net ≡ net
-  left = sym (ap (λ (b : BuildEnd). b .net) e)
-
   pub refused-text : (print : Graph → Bytes) {cause : Cause} → r ≡ Refused cause → refusedLine (refusalOf cause) ≡ graphPage (graphOf text) print
-  refused-text print {cause} h = sym (build-refused room enough text print cause (answered h))
+  refused-text print {cause} h = sym (build-refused room enough text print cause (build-answered text room e h))
 
   pub netlist-text : {made : ℕ} → r ≡ Gates made → isNetlist net ≡ true
-  netlist-text {made} h = rw left at (made-netlist room enough text means made (answered h))
+  netlist-text {made} h = rw (build-left text room e) at (made-netlist room enough text means made (build-answered text room e h))
 
   pub file-text : {made : ℕ} → r ≡ Gates made → fileOf net ≡ graphPage (graphOf text) (λ g. fileOf (numbersOf g))
-  file-text {made} h = rw left at (made-file room enough text means made (answered h))
-
-  pub judged-text : {made : ℕ} → r ≡ Gates made → (trace : Bytes) → length trace ≤ 65536 → machinePage net trace ≡ graphPage (graphOf text) (tracePage trace)
-  judged-text {made} h trace short = rw left at (judged room enough text trace means made (answered h) short)
+  file-text {made} h = rw (build-left text room e) at (made-file room enough text means made (build-answered text room e h))
 
   pub aiger-within : length (aigerText text) ≤ 65536
   aiger-within = aiger-fits room enough text means
 
--- ---- a start, and a run over the trace
+-- ---- a judgement of which `show` prints the tally, the verdict and the bytes of the cycles
 
-pub machine-text : (net trace : List ℕ) {started : Started} {ran : Ran} {latches latches′ values verdicts : List ℕ}
-    → startEnd started latches ≡ startOf net (replicate 4094 0) cleared
-    → runEnd ran latches′ values verdicts ≡ runOf net trace latches (replicate 4096 0) (replicate 32768 0) (started .tally)
-    → outcomePage (ran .outcome) (ran .tally) verdicts ≡ machinePage net trace
-unfolding machinePage machineEnd
-machine-text net trace starts runs = ap page runs ∙ ap (λ (s : StartEnd). page (after s)) starts
-  where
-    page : RunEnd → Bytes
-    page e = outcomePage (e .answer .outcome) (e .answer .tally) (e .verdicts)
+module _ (show : Tally → Verdict → List ℕ → Bytes) where
+  -- what is printed of an answer, with the verdict buffer as it was left
+  unfoldable pub answerText : Judged → List ℕ → Bytes
+  answerText (judged.Done t v) bytes = show t v (take (t .cycles) bytes)
+  answerText (judged.Refused c) bytes = refusedLine (judge.refusalOf c)
 
-    after : StartEnd → RunEnd
-    after s = runOf net trace (s .latches) (replicate 4096 0) (replicate 32768 0) (s .answer .tally)
+  -- and of a trace by a graph, a wrong line being told
+  abbrev pub traceText : Bytes → Graph → Bytes
+  traceText trace g =
+      let fault = faultOf (inputsOf g) trace in
+      let cycles = cyclesOf (inputsOf g) trace in
+      let bytes = verdicts g [] cycles in
+      cond (eqb fault 0) (show (record { cycles = length cycles; rejected = countRejected g cycles }) (verdictOf bytes) bytes) (refusedLine (calls.refusalOf (WrongLine fault)))
+
+  module _ (text trace : Bytes) (buffer : List ℕ) (short : length trace ≤ 1048576) (room : length trace ≤ length buffer * 2) where
+    abbrev ofEnd : JudgeEnd → Bytes
+    ofEnd e = answerText (e .answer) (e .verdicts)
+
+    trace-end : (g : Graph) → ofEnd (traceJudged g trace buffer) ≡ traceText trace g
+    unfolding answerText judge.refusalOf
+    trace-end g = ap ofEnd (room-judged g trace buffer short room) ∙ go (eqb (faultOf (inputsOf g) trace) 0)
+      where
+        cycles : List Bytes
+        cycles = cyclesOf (inputsOf g) trace
+
+        bytes : List ℕ
+        bytes = verdicts g [] cycles
+
+        t : Tally
+        t = record { cycles = length cycles; rejected = countRejected g cycles }
+
+        wrong : ℕ
+        wrong = faultOf (inputsOf g) trace
+
+        go : (b : Bool)
+            → ofEnd (cond b (judgeEnd (judged.Done t (verdictOf bytes)) (bytes ++ drop (length bytes) buffer)) (judgeEnd (judged.Refused (Trace (WrongLine wrong))) buffer))
+            ≡ cond b (show t (verdictOf bytes) bytes) (refusedLine (calls.refusalOf (WrongLine wrong)))
+        go true = ap (show t (verdictOf bytes)) (take-at bytes (drop (length bytes) buffer) (length cycles) (verdicts-length g [] cycles))
+        go false = refl
+
+    pub judged-text : {r : Judged} {left : List ℕ} → judgeEnd r left ≡ judgeOf text trace buffer → answerText r left ≡ graphPage (graphOf text) (traceText trace)
+    unfolding answerText judge.refusalOf
+    judged-text e = ap ofEnd e ∙ judge-end text trace buffer ofEnd (traceText trace) told trace-end (λ c. refl) ∙ sym (page-end (traceText trace) (graphOf text))

@@ -3,7 +3,7 @@ use mathlib.Core.Path.{_≡_, refl, ap, _∙_}
 use mathlib.Core.Bool.{Bool, true, false, cond}
 use mathlib.Core.List.{List, [], _∷_, _++_}
 use Prim.Native.Nat.{ℕ, zero, suc, _+_, _-_, _*_, _≤_, _<_}
-use native.Mathlib.Nat.{mul-suc, mul-le-mul-left}
+use native.Mathlib.Nat.{mul-suc}
 use native.Mathlib.Omega.{arith}
 use borrow.Author.Tests.{leb-true, le-leb, ltb-true, ltb-false}
 use lib.Dec.{eqb, leb, ltb}
@@ -30,25 +30,28 @@ use Rattle.simulator.specs.declared.outcome.Verdict.{Verdict}
 use Rattle.simulator.specs.declared.outcome.Verdict.the-variants.{Accepted, Rejected}
 use Rattle.calls.specs.declared.refusal.Cause.the-variants.{WrongLine}
 use Rattle.calls.specs.Refusals as simulator
-use Rattle.trace.specs.Traces.{fitsLine, faultFrom, faultOf, lineCount, cyclesOf}
+use Rattle.trace.specs.Traces.{faultOf, cyclesOf}
 use Rattle.simulator.specs.Run.{verdictOf}
-use Rattle.trace.proofs.TraceLaws.{lines-fit, length-cycles}
+use Rattle.trace.proofs.TraceLaws.{fault-bound}
 use Rattle.demand.proofs.Held.{verdicts-length}
+use Rattle.judge.specs.Judge.{inputsOf}
+use Rattle.judge.proofs.BuildLaws.{numbers-most}
+use Rattle.judge.proofs.EndLaws.{cycles-most}
 use Rattle.aiger.specs.Format.{fileOf}
 use Rattle.aiger.proofs.LengthLaws.{joined-length, file-length}
 use Rattle.page_text.specs.Parts.{graphLength, graphPart, tracePart}
 use Rattle.page_text.specs.Lines.{field, refusedLine, rejectedLine, verdictField, sumLine, cycleLine, report}
-use Rattle.page.specs.Pages.{inputRefusal, graphPage, inputsOf, judgement, tracePage, monitorText, aigerText}
+use Rattle.page.specs.Pages.{inputRefusal, graphPage, judgement, tracePage, monitorText, aigerText}
 use Rattle.page.specs.declared.InputFault.the-variants.{TooLong}
-use Rattle.page.proofs.BuildLaws.{numbers-most, made-netlist, made-file}
+use Rattle.page.proofs.BuildLaws.{made-netlist, made-file}
 use Rattle.page.proofs.SizeLaws.{graph-size, graph-line, graph-number}
 
 -- ---- lines, by the digits of their numbers
-field-length : (k n : ℕ) → n < tens (suc k) → length (field n) ≤ suc (suc k)
+pub field-length : (k n : ℕ) → n < tens (suc k) → length (field n) ≤ suc (suc k)
 unfolding field
 field-length k n h = omega (arith, digits-length k n h)
 
-refused-length : (r : Refusal) → r .number < 100 → r .line < 100000 → length (refusedLine r) ≤ 17
+pub refused-length : (r : Refusal) → r .number < 100 → r .line < 100000 → length (refusedLine r) ≤ 17
 unfolding refusedLine
 refused-length r hn hl =
     let a = field-length 1 (r .number) (omega arith) in
@@ -124,7 +127,7 @@ any-none : {A : Type 0} (f : A → Bool) (l : List A) → ((x : A) → f x ≡ f
 any-none f [] h = refl
 any-none f (x ∷ xs) h = rw (h x, any-none f xs h)
 
-none-rejected : (g : Graph) (seen cs : List Cycle) (k : ℕ) → g .edges ≡ [] → getD (verdicts g seen cs) k 0 ≡ 0
+pub none-rejected : (g : Graph) (seen cs : List Cycle) (k : ℕ) → g .edges ≡ [] → getD (verdicts g seen cs) k 0 ≡ 0
 unfolding isRejected
 none-rejected g seen [] k e = refl
 none-rejected g seen (c ∷ cs) zero e =
@@ -132,7 +135,7 @@ none-rejected g seen (c ∷ cs) zero e =
     (any-none (λ σ. rejectedUnder g σ (seen ++ (c ∷ []))) (lists (length (g .constants)) (false ∷ true ∷ [])) (λ σ. no-edge g σ (seen ++ (c ∷ [])) e))
 none-rejected g seen (c ∷ cs) (suc k) e = none-rejected g (seen ++ (c ∷ [])) cs k e
 
-sum-most : (g : Graph) (seen cs : List Cycle) → sum (verdicts g seen cs) ≤ length cs
+pub sum-most : (g : Graph) (seen cs : List Cycle) → sum (verdicts g seen cs) ≤ length cs
 sum-most g seen [] = omega arith
 sum-most g seen (c ∷ cs) = go (isRejected g (seen ++ (c ∷ []))) (sum-most g (seen ++ (c ∷ [])) cs)
   where
@@ -162,44 +165,18 @@ module _ (g : Graph) (cs : List Bytes) where
       omega (arith, page-length, last-line (omega arith), f)
 
 -- ---- the page of a trace
--- the first wrong line of a trace is one that it has
-fault-most : (n line col : ℕ) (s : List ℕ) → faultFrom n line col s ≤ line + length s
-unfolding faultFrom
-fault-most n line col [] = go (eqb col 0)
-  where
-    go : (b : Bool) → cond b 0 line ≤ line + 0
-    go true = omega arith
-    go false = omega arith
-fault-most n line col (b ∷ bs) =
-    go (fitsLine n col b) (eqb col n) (fault-most n (line + 1) 0 bs) (fault-most n line (col + 1) bs)
-  where
-    go : (f e : Bool) → faultFrom n (line + 1) 0 bs ≤ line + 1 + length bs → faultFrom n line (col + 1) bs ≤ line + length bs
-        → cond f (faultFrom n (cond e (line + 1) line) (cond e 0 (col + 1)) bs) line ≤ line + suc (length bs)
-    go true true h k = omega (arith, h)
-    go true false h k = omega (arith, k)
-    go false e h k = omega arith
+pub line-small : (trace : Bytes) → length trace ≤ 65536 → (n : ℕ) → faultOf n trace < 100000
+line-small trace short n = omega (arith, fault-bound n trace)
 
 module _ (g : Graph) (trace : Bytes) (short : length trace ≤ 65536) where
-  -- a line has two bytes at least
-  cycles-most : length (cyclesOf (inputsOf g) trace) * 2 ≤ length trace
-  unfolding inputsOf
-  cycles-most =
-      let n = lineCount (1 + length (g .signals)) trace in
-      let two : n * 2 ≤ n * (1 + length (g .signals) + 1) = mul-le-mul-left n (omega arith) in
-      omega (arith, two, lines-fit (1 + length (g .signals)) trace, length-cycles (1 + length (g .signals)) trace)
-
   judged-most : (1 ≤ length (g .edges) → length trace ≤ 65518) → length (judgement g (cyclesOf (inputsOf g) trace)) ≤ 250991
   judged-most h = go (g .edges) refl
     where
       go : (es : List Edge) → g .edges ≡ es → length (judgement g (cyclesOf (inputsOf g) trace)) ≤ 250991
-      go [] e = judgement-none g (cyclesOf (inputsOf g) trace) e (omega (arith, cycles-most))
+      go [] e = judgement-none g (cyclesOf (inputsOf g) trace) e (omega (arith, cycles-most g trace))
       go (x ∷ xs) e =
           let some : 1 ≤ length (g .edges) = omega (arith, ap length e) in
-          judgement-most g (cyclesOf (inputsOf g) trace) (omega (arith, cycles-most, h some))
-
-  line-small : (n : ℕ) → faultOf n trace < 100000
-  unfolding faultOf
-  line-small n = omega (arith, fault-most n 1 0 trace)
+          judgement-most g (cyclesOf (inputsOf g) trace) (omega (arith, cycles-most g trace, h some))
 
   trace-most : (1 ≤ length (g .edges) → length trace ≤ 65518) → length (tracePage trace g) ≤ 250991
   unfolding tracePage simulator.refusalOf
@@ -208,7 +185,7 @@ module _ (g : Graph) (trace : Bytes) (short : length trace ≤ 65536) where
       go : (b : Bool)
           → length (cond b (judgement g (cyclesOf (inputsOf g) trace)) (refusedLine (simulator.refusalOf (WrongLine (faultOf (inputsOf g) trace))))) ≤ 250991
       go true = judged-most h
-      go false = omega (arith, refused-length (simulator.refusalOf (WrongLine (faultOf (inputsOf g) trace))) (omega arith) (line-small (inputsOf g)))
+      go false = omega (arith, refused-length (simulator.refusalOf (WrongLine (faultOf (inputsOf g) trace))) (omega arith) (line-small trace short (inputsOf g)))
 
 -- ---- the page of a graph text
 module _ (text : Bytes) (print : Graph → Bytes) (most : ℕ) (some : 17 ≤ most)
@@ -225,7 +202,7 @@ module _ (text : Bytes) (print : Graph → Bytes) (most : ℕ) (some : 17 ≤ mo
       go true l = fits g e (leb-true (variablesOf g) 4095 l)
       go false l = omega (arith, refused-length (build.refusalOf TooManyVariables) (omega arith) (omega arith))
 
-  page-most : length (graphPage (graphOf text) print) ≤ most
+  pub page-most : length (graphPage (graphOf text) print) ≤ most
   page-most = go (graphOf text) refl
     where
       go : (o : Outcome) → graphOf text ≡ o → length (graphPage o print) ≤ most
@@ -234,13 +211,14 @@ module _ (text : Bytes) (print : Graph → Bytes) (most : ℕ) (some : 17 ≤ mo
 
 -- ---- the monitor's page
 module _ (input : Bytes) where
-  trace-short : length input ≤ 65536 → (g : Graph) → graphOf (graphPart input) ≡ accepted g → 1 ≤ length (g .edges) → length (tracePart input) ≤ 65518
+  -- a graph with an edge has 16 bytes at least, and the line `T` has two
+  pub trace-short : (g : Graph) → graphOf (graphPart input) ≡ accepted g → 1 ≤ length (g .edges) → length (tracePart input) ≤ length input - 18
   unfolding graphPart tracePart
-  trace-short short g e some =
+  trace-short g e some =
       let s = graph-size (take (graphLength input) input) g e in
       omega (arith, s .0, s .1, length-take (graphLength input) input, length-drop (graphLength input + 2) input)
 
-  trace-any : length input ≤ 65536 → length (tracePart input) ≤ 65536
+  pub trace-any : length input ≤ 65536 → length (tracePart input) ≤ 65536
   unfolding tracePart
   trace-any short = omega (arith, length-drop (graphLength input + 2) input)
 
@@ -253,7 +231,7 @@ module _ (input : Bytes) where
       go true l =
           let short = leb-true (length input) 65536 l in
           page-most (graphPart input) (tracePage (tracePart input)) 250991 (omega arith)
-          (λ g e v. trace-most g (tracePart input) (trace-any short) (trace-short short g e))
+          (λ g e v. trace-most g (tracePart input) (trace-any short) (λ some. omega (arith, short, trace-short g e some)))
       go false l = omega (arith, refused-length (inputRefusal TooLong) (omega arith) (omega arith))
 
 -- ---- the page of AIGER text

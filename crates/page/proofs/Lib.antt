@@ -1,10 +1,9 @@
--- The laws that belong to no one function.
-mod PageLaws
-mod BuildLaws
-mod JudgedLaws
+-- The laws that belong to no one function, for the proofs here and in the crates above. Assumes nothing.
+pub mod PageLaws
+pub mod BuildLaws
 mod SumLaws
 mod SizeLaws
-mod LengthLaws
-mod AnswerLaws
+pub mod LengthLaws
+pub mod AnswerLaws
 pub mod ProgramLaws
 mod Examples

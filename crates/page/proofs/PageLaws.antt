@@ -1,16 +1,13 @@
 -- A page in a lent buffer, as it is measured and written, the file of a netlist as a page, and the monitor's page by
 -- the parts of its input. Assumes nothing.
-use mathlib.Core.Path.{_≡_, refl, sym, ap, _∙_}
+use mathlib.Core.Path.{_≡_, refl, ap, _∙_}
 use mathlib.Core.Bool.{Bool, true, false, cond, not}
 use mathlib.Core.List.{List, [], _++_}
-use Prim.Native.Nat.{ℕ, _-_, _≤_, _<_, min}
-use native.Mathlib.Decide.{decLe}
-use native.Mathlib.Omega.{arith}
+use Prim.Native.Nat.{ℕ, _-_, _≤_, _<_}
 use borrow.Author.Tests.{lt-leb, le-leb}
 use borrow.Rule.Slice.PartAt.{part-to-end}
 use lib.Dec.{leb}
 use lib.ListN.{length, take, drop}
-use lib.Seq.{take-all}
 use Rattle.text.specs.Writer.{top, Wrote}
 use Rattle.text.proofs.WriterLaws.{measured, too-long}
 use Rattle.netlist.specs.Valid.{isNetlist}
@@ -74,11 +71,3 @@ module _ (s : List ℕ) where
       → graphPage (graphOf (take end s)) (tracePage (take (length s - at) (drop at s))) ≡ monitorText s
   unfolding monitorText graphPart
   parted-text {end} at short g q = rw (le-leb (length s) 65536 short, part-to-end s at, q, g)
-
--- ---- the verdict bytes of a page: one a cycle, or all where there are fewer
-pub shown : (bytes : List ℕ) (cycles : ℕ) {end : ℕ} → end ≡ min cycles (length bytes) → take end bytes ≡ take cycles bytes
-shown bytes cycles {end} h = go (decLe cycles (length bytes))
-  where
-    go : Dec (cycles ≤ length bytes) → take end bytes ≡ take cycles bytes
-    go (yes g) = let e : end ≡ cycles = omega arith in rw e
-    go (no g) = take-all end bytes (omega arith) ∙ sym (take-all cycles bytes (omega arith))

@@ -16,9 +16,10 @@ use Rattle.demand.specs.Demand.{VerdictOfPaths}
 use Rattle.demand.proofs.Held.{verdicts-length}
 use Rattle.demand.proofs.Verdicts.{verdict-of-paths}
 use Rattle.builder.specs.Build.{variablesOf}
+use Rattle.judge.specs.Judge.{inputsOf}
 use Rattle.page_text.specs.Parts.{tracePart}
 use Rattle.page_text.specs.Lines.{verdictField, sumLine, report}
-use Rattle.page.specs.Pages.{graphPage, inputsOf, judgement, tracePage, monitorText, SumMeans, JudgementMeans}
+use Rattle.page.specs.Pages.{graphPage, judgement, tracePage, monitorText, SumMeans, JudgementMeans}
 
 -- a page with the verdict that paths give
 sum-means : (g : Graph) (cycles : List Bytes) (page : Bytes) (v : Verdict) → VerdictOfPaths g [] cycles v

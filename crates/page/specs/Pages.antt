@@ -1,10 +1,10 @@
--- The pages of the two programs. A refusal of what a page needs is the page's text; a page itself is refused only
--- where it does not fit into the buffer. Which cycles are rejected is said by paths. Assumes nothing.
+-- The pages of the programs monitor and graph2aiger. A refusal of what a page needs is the page's text; a page itself is
+-- refused only where it does not fit into the buffer. Which cycles are rejected is said by paths. Assumes nothing.
 use mathlib.Core.Path.{_≡_}
 use mathlib.Core.Logic.{_⊎_}
 use mathlib.Core.Bool.{cond}
 use mathlib.Core.List.{List, [], _++_}
-use Prim.Native.Nat.{ℕ, _+_, _≤_}
+use Prim.Native.Nat.{ℕ, _≤_}
 use lib.Dec.{eqb, leb}
 use lib.ListN.{length, drop}
 use Rattle.text.specs.declared.Refusal.{Refusal}
@@ -23,6 +23,7 @@ use Rattle.simulator.specs.Run.{verdictOf}
 use Rattle.demand.specs.Demand.{SomeRejected}
 use Rattle.calls.specs.Refusals as simulator
 use Rattle.calls.specs.declared.refusal.Cause.the-variants.{WrongLine}
+use Rattle.judge.specs.Judge.{inputsOf}
 use Rattle.page_text.specs.Parts.{graphPart, tracePart}
 use Rattle.page_text.specs.Lines.{field, refusedLine, cycleLine, report}
 use Rattle.page.specs.declared.Cause.{Cause}
@@ -46,10 +47,6 @@ graphPage (refused cause) print = refusedLine (build.refusalOf (GraphText cause)
 graphPage (accepted g) print = cond (leb (variablesOf g) 4095) (print g) (refusedLine (build.refusalOf TooManyVariables))
 
 -- ---- the monitor program
--- inputs are init, then the signals
-unfoldable pub inputsOf : Graph → ℕ
-inputsOf g = 1 + length (g .signals)
-
 -- the cycles that some setting and some rejecting path condemn, and the sum
 unfoldable pub judgement : Graph → List Bytes → Bytes
 judgement g cycles = let judged = verdicts g [] cycles in report judged (length cycles) (countRejected g cycles) (verdictOf judged)

@@ -1,15 +1,14 @@
-// The pages of the two programs, as functions on slices: the monitor's judgement of a trace, and the AIGER file of
+// The pages of monitor and graph2aiger, as functions on slices: the monitor's judgement of a trace, and the AIGER file of
 // a graph. A refusal of what a page needs is the page's text; a page itself is refused only where the buffer is too
 // short for it. Knows nothing of where its bytes come from or go to. Exports that the monitor's page names exactly
 // the cycles that some setting and some rejecting path condemn, and says rejected exactly if there is one.
 use aiger::Written;
 use builder::Built;
 use calls::Tally;
+use judge::Judged;
 use page_text::graph_length;
 use page_text::put_refusal;
 use page_text::put_report;
-use simulator::Ran;
-use simulator::RunOutcome;
 use simulator::Verdict;
 use text::Refusal;
 ghost use mathlib.Core.Path.{_≡_};
@@ -22,7 +21,6 @@ ghost use Rattle.graph.specs.Reading.{graphOf};
 ghost use Rattle.aiger.specs.Format.{fileOf};
 ghost use Rattle.page_text.specs.Lines.{refusedLine, report};
 ghost use Rattle.page.specs.Pages.{refusalOf, inputRefusal, JudgementMeans, graphPage, tracePage, pageEnd, pageOf, monitorText, aigerText};
-ghost use Rattle.page.specs.Private.Machine.{outcomePage, machinePage};
 
 // The longest input of a program.
 const MAX_INPUT: usize = 65536;
@@ -31,12 +29,7 @@ const MAX_INPUT: usize = 65536;
 // the output.
 const MAX_NUMBERS: usize = 8194;
 
-// The most latch words and value words of a netlist, and the most cycles of a trace in a program's input, whose
-// lines have two bytes at least.
-const MAX_LATCHES: usize = 4094;
-
-const MAX_VALUES: usize = 4096;
-
+// The most cycles of a trace in a program's input, whose lines have two bytes at least.
 const MAX_CYCLES: usize = 32768;
 
 // Why a page is refused.
@@ -85,7 +78,7 @@ impl InputFault {
 
 // The page of a refusal. Like every page it is measured first, so that the buffer stays as it was where it is too
 // short.
-fn refused_page(out: &mut [u8], refusal: Refusal) -> Paged
+pub fn refused_page(out: &mut [u8], refusal: Refusal) -> Paged
     ensures { λ r. ⌜ pageEnd r (now (out .exit)) ≡ pageOf (refusedLine refusal) (now (out .entry)) ⌝ }
 {
     let need = put_refusal(&mut out[..0], 0, refusal);
@@ -108,57 +101,19 @@ fn report_page(out: &mut [u8], bytes: &[u8], tally: Tally, verdict: Verdict) -> 
     Paged::Bytes(end)
 }
 
-// The page of what a run answered and left in its verdict buffer.
-fn outcome_page(out: &mut [u8], ran: Ran, verdicts: &[u8]) -> Paged
-    ensures { λ r. ⌜ pageEnd r (now (out .exit)) ≡ pageOf (outcomePage (ran .outcome) (ran .tally) (now (verdicts .entry))) (now (out .entry)) ⌝ }
-{
-    let outcome = ran.outcome;
-    let tally = ran.tally;
-    let cycles = tally.cycles as usize;
-    let end = if cycles < verdicts.len() {
-        cycles
-    } else {
-        verdicts.len()
-    };
-    match outcome {
-        RunOutcome::Done(verdict) => report_page(out, &verdicts[..end], tally, verdict),
-        RunOutcome::Refused(cause) => refused_page(out, cause.refusal()),
-    }
-}
-
-// The page of a netlist's run over a trace.
-fn machine_page(out: &mut [u8], net: &[u16], trace: &[u8]) -> Paged
-    ensures { λ r. ⌜ pageEnd r (now (out .exit)) ≡ pageOf (machinePage (now (net .entry)) (now (trace .entry))) (now (out .entry)) ⌝ }
-{
-    let mut latches = [0u64; MAX_LATCHES];
-    let mut values = [0u64; MAX_VALUES];
-    let mut verdicts = [0u8; MAX_CYCLES];
-    let tally = Tally {
-        cycles: 0,
-        rejected: 0,
-    };
-    let started = simulator::start(net, &mut latches, tally);
-    let ran = simulator::run(
-        net,
-        trace,
-        &mut latches,
-        &mut values,
-        &mut verdicts,
-        started.tally,
-    );
-    outcome_page(out, ran, &verdicts)
-}
-
 // The page of a graph text and a trace.
 fn judged_page(out: &mut [u8], graph: &[u8], trace: &[u8]) -> Paged
     requires { ⌜ length (now trace) ≤ 65536 ⌝ }
     ensures { λ r. ⌜ pageEnd r (now (out .exit)) ≡ pageOf (graphPage (graphOf (now (graph .entry))) (tracePage (now (trace .entry)))) (now (out .entry)) ⌝ }
 {
-    let mut net = [0u16; MAX_NUMBERS];
-    let built = builder::build(graph, &mut net);
-    match built {
-        Built::Gates(_) => machine_page(out, &net, trace),
-        Built::Refused(cause) => refused_page(out, cause.refusal()),
+    let mut verdicts = [0u8; MAX_CYCLES];
+    let judged = judge::judge(graph, trace, &mut verdicts);
+    match judged {
+        Judged::Done(tally, verdict) => {
+            let end = tally.cycles as usize;
+            report_page(out, &verdicts[..end], tally, verdict)
+        }
+        Judged::Refused(cause) => refused_page(out, cause.refusal()),
     }
 }
 

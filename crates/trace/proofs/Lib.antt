@@ -1,3 +1,4 @@
 -- The laws that belong to no one function, for the proofs here and in the crates above. Assumes nothing.
 pub mod TraceLaws
 pub mod LineLaws
+pub mod VerdictLaws

@@ -1,17 +1,22 @@
-//! The cases: one call, or a list of calls on one netlist; and now and then a session.
+//! The cases: one call, or a list of calls on one netlist; and now and then a session, or a
+//! session page.
 
 use crate::bench::Bench;
 use crate::compare::{Call, Lengths, Memory, Mismatch, Name};
 use crate::random::Random;
 use crate::round_trip::write_and_read_back;
-use crate::{aigers, graphs, netlists, rates, sequence, sessions, traces};
+use crate::{aigers, graphs, netlists, pages, rates, sequence, sessions, traces};
 use reference::{formula_of_gates, Graph, Netlist, Tally};
 
-/// The session is drawn last, so that the others' draws do not depend on it.
+/// The session and then the page are drawn last, so that the others' draws do not depend on
+/// them.
 pub fn case(bench: &mut Bench) -> Result<(), Mismatch> {
     calls(bench)?;
     if bench.random.once_in(4) {
         session(bench)?;
+    }
+    if bench.random.once_in(4) {
+        page(bench)?;
     }
     Ok(())
 }
@@ -193,4 +198,10 @@ fn session(bench: &mut Bench) -> Result<(), Mismatch> {
     let flywheel = sessions::any(random, width);
     let handle = sessions::any(random, width);
     sessions::compare_session(bench, width, &flywheel, &handle)
+}
+
+fn page(bench: &mut Bench) -> Result<(), Mismatch> {
+    let name = pages::any_name(&mut bench.random);
+    let verdicts = pages::any_verdicts(&mut bench.random);
+    pages::compare_page(bench, &name, &verdicts)
 }

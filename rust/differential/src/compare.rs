@@ -1,5 +1,6 @@
 //! One call by the library and by the reference, and what differs between them.
 
+use crate::pages::Record;
 use crate::random::Random;
 use crate::sessions::Session;
 use ludopoplar::raw;
@@ -17,6 +18,7 @@ pub enum Name {
     PerMillion,
     BrokenCheck,
     BrokenLine,
+    SessionPage,
 }
 
 /// A call with what it reads: `bytes` is a graph, an AIGER text, a cycle or a trace.
@@ -27,6 +29,8 @@ pub struct Call {
     pub bytes: Vec<u8>,
     /// What `BrokenCheck` and `BrokenLine` read instead.
     session: Option<Session>,
+    /// What `SessionPage` reads instead.
+    record: Option<Record>,
 }
 
 impl Call {
@@ -40,6 +44,7 @@ impl Call {
             net,
             bytes,
             session: None,
+            record: None,
         }
     }
 
@@ -57,6 +62,17 @@ impl Call {
 
     pub fn session(&self) -> &Session {
         self.session.as_ref().expect("a call on a session")
+    }
+
+    pub fn session_page(record: Record) -> Call {
+        Call {
+            record: Some(record),
+            ..Call::on_bytes(Name::SessionPage, Vec::new())
+        }
+    }
+
+    fn record(&self) -> &Record {
+        self.record.as_ref().expect("a call on a record")
     }
 }
 
@@ -107,6 +123,7 @@ pub struct Lengths {
 #[derive(Clone, PartialEq)]
 pub struct Memory {
     pub net: Lent<u16>,
+    /// An AIGER text or a session page.
     pub text: Lent<u8>,
     pub latches: Lent<u64>,
     pub values: Lent<u64>,
@@ -201,6 +218,10 @@ fn library(call: &mut Call, memory: &mut Memory) -> u64 {
         Name::PerMillion => raw::per_million(*cycles, *rejected, answer, remainder),
         Name::BrokenCheck => call.session().check_by_library(),
         Name::BrokenLine => call.session().line_by_library(&mut memory.part),
+        Name::SessionPage => {
+            let (record, page) = (call.record(), memory.text.get_mut());
+            raw::session_page(record.name(), record.verdicts(), page, answer)
+        }
     }
 }
 
@@ -236,6 +257,10 @@ fn reference_call(call: &Call, memory: &mut Memory) -> Result<(), Refusal> {
             };
             memory.part = [trace, part.offset as u64, part.bytes.len() as u64];
             return Ok(());
+        }
+        Name::SessionPage => {
+            let (record, page) = (call.record(), memory.text.get_mut());
+            reference::session_page(record.name(), record.verdicts(), page)? as u64
         }
     };
     memory.answer = answer;
@@ -292,6 +317,13 @@ fn buffer_difference<T: PartialEq + Debug>(what: &str, found: &Lent<T>, due: &Le
 fn told(call: &Call, tally: Tally, memory: &Memory, differences: &str) -> String {
     if let Some(session) = &call.session {
         return format!("call: {:?}\n{session}\n{differences}", call.name);
+    }
+    if let Some(record) = &call.record {
+        let lent = memory.text.length;
+        return format!(
+            "call: {:?}\n{record}\npage of {lent} bytes lent\n{differences}",
+            call.name
+        );
     }
     format!(
         "call: {:?}\nnumbers lent: {:?}\nbytes lent ({}): \"{}\"\nbefore: {:?}\n\

@@ -5,7 +5,7 @@ use std::collections::BTreeMap;
 use std::fmt;
 
 /// Every number each call can be refused with; `BrokenLine` never is.
-const REFUSALS: [(Name, &[u32]); 8] = [
+const REFUSALS: [(Name, &[u32]); 9] = [
     (Name::Build, &[1, 2, 3, 4, 5, 6, 7, 8, 9, 10, 11, 12]),
     (Name::Read, &[1, 12, 13, 14]),
     (Name::Write, &[12, 16]),
@@ -14,6 +14,7 @@ const REFUSALS: [(Name, &[u32]); 8] = [
     (Name::Run, &[1, 12, 15, 16, 17]),
     (Name::PerMillion, &[21]),
     (Name::BrokenCheck, &[1, 15, 25, 26]),
+    (Name::SessionPage, &[1, 12, 22]),
 ];
 
 #[derive(Default)]
@@ -30,6 +31,10 @@ pub struct Coverage {
     flywheel_lines: u64,
     handle_lines: u64,
     no_lines: u64,
+    /// Pages with and without a line of rejected cycles, and the lines of all of them.
+    pages: u64,
+    empty_pages: u64,
+    page_lines: u64,
 }
 
 impl Coverage {
@@ -45,6 +50,17 @@ impl Coverage {
             _ => &mut self.handle_lines,
         };
         *count += 1;
+    }
+
+    /// Counts a page by its lines: the first and the last have no rejected cycles.
+    pub fn record_page(&mut self, page: &[u8]) {
+        let lines = page.iter().filter(|byte| **byte == b'\n').count() as u64;
+        let count = match lines {
+            2 => &mut self.empty_pages,
+            _ => &mut self.pages,
+        };
+        *count += 1;
+        self.page_lines += lines;
     }
 
     fn count(&self, name: Name, number: u32) -> u64 {
@@ -67,6 +83,9 @@ impl Coverage {
         if [self.flywheel_lines, self.handle_lines, self.no_lines].contains(&0) {
             gaps.push("lines handed back".into());
         }
+        if [self.pages, self.empty_pages].contains(&0) {
+            gaps.push("session pages".into());
+        }
         gaps
     }
 }
@@ -85,6 +104,11 @@ impl fmt::Display for Coverage {
             f,
             "lines handed back: {} of the flywheel, {} of the handle, {} empty",
             self.flywheel_lines, self.handle_lines, self.no_lines
+        )?;
+        writeln!(
+            f,
+            "session pages: {} with rejected cycles, {} without, {} lines",
+            self.pages, self.empty_pages, self.page_lines
         )?;
         writeln!(f, "read(write(net)): {} netlists", self.read_back)?;
         write!(

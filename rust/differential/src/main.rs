@@ -11,6 +11,7 @@ mod coverage;
 mod damage;
 mod graphs;
 mod netlists;
+mod pages;
 mod random;
 mod rates;
 mod round_trip;

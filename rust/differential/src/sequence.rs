@@ -1,10 +1,11 @@
 //! Demand 3: an accepted graph, an accepted start, and a list of steps and runs
 //! with latch words and tally handed on, refused calls included; its tally, its
 //! verdict bytes and the verdict of each run against the paths of the graph; the
-//! rate of the tally it leaves; and its runs as the measurements of sessions.
+//! rate of the tally it leaves; its runs as the measurements of sessions, and their pages.
 
 use crate::bench::Bench;
 use crate::compare::{Call, Lengths, Memory, Mismatch, Name, Outcome};
+use crate::pages::compare_page;
 use crate::rates::compare_rate;
 use crate::round_trip::write_and_read_back;
 use crate::sessions::{compare_session, Measurement};
@@ -179,10 +180,13 @@ impl Thread {
         });
     }
 
-    /// Each run and the next one as the flywheel and the handle of a session.
+    /// Each run and the next one as the flywheel and the handle of a session; the page of each.
     fn compare_runs(&self, bench: &mut Bench) -> Result<(), Mismatch> {
         for pair in self.runs.windows(2) {
             compare_session(bench, self.inputs() as u64, &pair[0], &pair[1])?;
+        }
+        for run in &self.runs {
+            compare_page(bench, b"run", &run.verdicts)?;
         }
         Ok(())
     }

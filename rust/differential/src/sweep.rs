@@ -1,8 +1,10 @@
 //! Every change of one byte or one number in a few small inputs, every pair of some
-//! numbers as a tally, and sessions of every small kind.
+//! numbers as a tally, sessions of every small kind, and session pages of every small
+//! kind and of the largest.
 
 use crate::bench::Bench;
 use crate::compare::{Call, Lengths, Memory, Mismatch, Name};
+use crate::pages::{compare_page_into, needed, MAX_CYCLES};
 use crate::rates;
 use crate::sessions::{compare_session, Measurement};
 use crate::traces::MAX_TRACE_BYTES;
@@ -49,6 +51,7 @@ pub fn sweep(bench: &mut Bench) -> Result<usize, Mismatch> {
         count += 1;
     }
     count += sweep_sessions(bench)?;
+    count += sweep_pages(bench)?;
     Ok(count)
 }
 
@@ -155,14 +158,19 @@ fn changed_measurements(good: &Measurement) -> Vec<Measurement> {
 
 /// Every verdict list of up to four cycles, over a trace of as many.
 fn judged_measurements() -> Vec<Measurement> {
+    let over_trace = |list: &Vec<u8>| measurement(&b"01\n".repeat(list.len()), list);
+    verdict_lists(4).iter().map(over_trace).collect()
+}
+
+/// Every verdict list of up to so many cycles, the shorter ones first.
+fn verdict_lists(cycles: u32) -> Vec<Vec<u8>> {
     let mut lists: Vec<Vec<u8>> = vec![Vec::new()];
-    for shorter in 0..15 {
+    for shorter in 0..(1 << cycles) - 1 {
         for byte in [0, 1] {
             lists.push([&lists[shorter][..], &[byte]].concat());
         }
     }
-    let over_trace = |list: &Vec<u8>| measurement(&b"01\n".repeat(list.len()), list);
-    lists.iter().map(over_trace).collect()
+    lists
 }
 
 /// With or without each fault of a trace, and of a verdict list.
@@ -175,4 +183,64 @@ fn faulty_measurements() -> Vec<Measurement> {
         }
     }
     measurements
+}
+
+/// Every change of one byte in a name or a verdict list; names of every length; every list
+/// of up to eight cycles; every count of rejected cycles up to 130, all rejected or one
+/// more accepted; every length of the buffer about those that are needed; every choice of
+/// faults; and the longest lists.
+fn sweep_pages(bench: &mut Bench) -> Result<usize, Mismatch> {
+    let mut count = 0;
+    let mut compare = |name: &[u8], verdicts: &[u8], lent| {
+        count += 1;
+        compare_page_into(bench, name, verdicts, lent)
+    };
+    let long_name = b"zZ_09_Aa_session_page_24";
+    for name in [&b"G"[..], b"7up", long_name] {
+        for changed in changed_texts(name) {
+            compare(&changed, &[1, 0, 0], 250)?;
+        }
+    }
+    for length in 0..=60 {
+        compare(&b"_".repeat(length), &[0, 1], 243)?;
+    }
+    for changed in changed_texts(&[0, 1, 1, 0, 1]) {
+        compare(b"G", &changed, 250)?;
+    }
+    for verdicts in verdict_lists(8) {
+        compare(b"G", &verdicts, needed(&verdicts))?;
+    }
+    for rejected in 0..=130 {
+        for verdicts in [
+            vec![1; rejected],
+            [&vec![1; rejected][..], &[0]].concat(),
+            [&[0], &vec![1; rejected][..]].concat(),
+        ] {
+            compare(b"count", &verdicts, needed(&verdicts) + 1)?;
+        }
+    }
+    for verdicts in [&[][..], &[0], &[1], &[1; 10], &[1; 11], &[1; 21]] {
+        for lent in 0..=needed(verdicts) + 85 {
+            compare(b"G", verdicts, lent)?;
+        }
+    }
+    let (most, too_many) = (vec![0; MAX_CYCLES], vec![0; MAX_CYCLES + 1]);
+    let mut wrong_at_end = most.clone();
+    wrong_at_end[MAX_CYCLES - 1] = 2;
+    for name in [&b"G"[..], b"", b"a b", &[b'a'; 25]] {
+        for verdicts in [&[0, 1][..], &[0, 2], &most, &wrong_at_end, &too_many] {
+            for short in [0, 1] {
+                compare(name, verdicts, needed(verdicts) - short)?;
+            }
+        }
+    }
+    // All rejected, in a buffer of just that length, of one byte more, and of one less.
+    let all_rejected = vec![1; MAX_CYCLES];
+    let longest = needed(&all_rejected);
+    for lent in longest - 1..=longest + 1 {
+        compare(long_name, &all_rejected, lent)?;
+    }
+    let every_third: Vec<u8> = (0..MAX_CYCLES).map(|at| u8::from(at % 3 == 0)).collect();
+    compare(b"G", &every_third, needed(&every_third))?;
+    Ok(count)
 }

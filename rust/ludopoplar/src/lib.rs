@@ -227,3 +227,14 @@ pub fn first_broken<'a>(
     };
     Ok(&trace[part.offset..][..part.length])
 }
+
+/// Lays a run's verdict bytes, at most 524,288, out as the page that goes on the wall;
+/// returns its length in bytes, at most 4,246,911. Each line has 80 bytes and an LF: a
+/// title of the graph's name, 1 to 24 letters, digits or `_`, and the cycles; ten rejected
+/// cycles a line; and at the end the rejected, with whole part and remainder of their rate
+/// in a million.
+pub fn session_page(name: &[u8], verdicts: &[u8], page: &mut [u8]) -> Result<usize, Refusal> {
+    let mut length = 0;
+    Refusal::check(raw::session_page(name, verdicts, page, &mut length))?;
+    Ok(length as usize)
+}

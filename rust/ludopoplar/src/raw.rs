@@ -100,10 +100,20 @@ mod c {
             offset: *mut u64,
             length: *mut u64,
         ) -> u64;
+
+        pub fn ludo_session_page(
+            name: *const u8,
+            name_len: usize,
+            verdicts: *const u8,
+            verdicts_len: usize,
+            page: *mut u8,
+            page_len: usize,
+            length: *mut u64,
+        ) -> u64;
     }
 }
 
-// SAFETY, of all nine: every pointer comes from a reference or a slice that lives
+// SAFETY, of all ten: every pointer comes from a reference or a slice that lives
 // through the call, with that slice's own length; the exclusive borrows keep what
 // the library writes apart from all else; the library keeps no pointer.
 
@@ -264,6 +274,20 @@ pub fn broken_line(
             handle_verdicts.len(),
             trace,
             offset,
+            length,
+        )
+    }
+}
+
+pub fn session_page(name: &[u8], verdicts: &[u8], page: &mut [u8], length: &mut u64) -> u64 {
+    unsafe {
+        c::ludo_session_page(
+            name.as_ptr(),
+            name.len(),
+            verdicts.as_ptr(),
+            verdicts.len(),
+            page.as_mut_ptr(),
+            page.len(),
             length,
         )
     }

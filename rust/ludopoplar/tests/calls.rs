@@ -1,10 +1,12 @@
 //! The safe calls: document 01's graph G, the words of a start, the verdict of each run, the rate
-//! of each tally, the line handed back from each session, empty slices, refusals.
+//! of each tally, the line handed back from each session, the page of each run, empty slices,
+//! refusals.
 
 use ludopoplar::{
-    broken_check, broken_line, build, first_broken, per_million, raw, read, run, start, step,
-    write, Part, Rate, Refusal, Tally, Trace, Verdict,
+    broken_check, broken_line, build, first_broken, per_million, raw, read, run, session_page,
+    start, step, write, Part, Rate, Refusal, Tally, Trace, Verdict,
 };
+use std::time::Instant;
 
 const G: &[u8] = b"S\tp\nS\tq\nV\ta\nV\tb\nE\ta\tb\tt\tp\tq\n";
 const FILE_OF_G: &[u8] = b"aag 12 3 2 1 7\n2\n4\n6\n8 18\n10 25\n24\n\
@@ -298,6 +300,226 @@ fn one_trace_as_both() {
     assert_eq!(part, due);
 }
 
+/// Document 02, No. 9: the lines of a page, each filled up with blanks to 80 bytes.
+fn page(rows: &[&str]) -> Vec<u8> {
+    let lines = rows.iter().map(|row| format!("{row:<80}\n"));
+    lines.collect::<String>().into_bytes()
+}
+
+/// Makes both calls, on a buffer that has just the bytes due and on a longer one.
+fn check_page(name: &str, verdicts: &[u8], due: &[u8]) {
+    for surplus in [0, 3] {
+        let mut buffer = vec![b'x'; due.len() + surplus];
+        let length = session_page(name.as_bytes(), verdicts, &mut buffer);
+        assert_eq!(length, Ok(due.len()), "{name}");
+        assert_eq!(buffer[..due.len()], *due, "{name}");
+        assert_eq!(buffer[due.len()..], b"xxx"[..surplus], "{name}");
+        let (mut again, mut length) = (vec![b'x'; buffer.len()], 77);
+        let code = raw::session_page(name.as_bytes(), verdicts, &mut again, &mut length);
+        assert_eq!((code, length), (0, due.len() as u64), "{name}");
+        assert_eq!(again, buffer, "{name}");
+    }
+}
+
+#[test]
+fn page_of_each_run() {
+    let pages: [(&str, &[u8], &[&str]); 12] = [
+        (
+            "G",
+            &[1, 0, 0],
+            &[
+                "G                                3",
+                "       1",
+                "         1 333333         1",
+            ],
+        ),
+        (
+            "G",
+            &[],
+            &["G                                0", "         0"],
+        ),
+        (
+            "G",
+            &[0, 0, 0],
+            &[
+                "G                                3",
+                "         0      0         0",
+            ],
+        ),
+        (
+            "aaaaaaaaaaaaaaaaaaaaaaaa",
+            &[1; 11],
+            &[
+                "aaaaaaaaaaaaaaaaaaaaaaaa        11",
+                "       1       2       3       4       5       6       7       8       9      10",
+                "      11",
+                "        111000000         0",
+            ],
+        ),
+        (
+            "7up",
+            &[0, 1],
+            &[
+                "7up                              2",
+                "       2",
+                "         1 500000         0",
+            ],
+        ),
+        (
+            "G",
+            &[0; 524_288],
+            &[
+                "G                           524288",
+                "         0      0         0",
+            ],
+        ),
+        (
+            "_",
+            &[1; 9],
+            &[
+                "_                                9",
+                "       1       2       3       4       5       6       7       8       9",
+                "         91000000         0",
+            ],
+        ),
+        (
+            "Z9a0_z",
+            &[1; 10],
+            &[
+                "Z9a0_z                          10",
+                "       1       2       3       4       5       6       7       8       9      10",
+                "        101000000         0",
+            ],
+        ),
+        (
+            "refused",
+            &[1; 20],
+            &[
+                "refused                         20",
+                "       1       2       3       4       5       6       7       8       9      10",
+                "      11      12      13      14      15      16      17      18      19      20",
+                "        201000000         0",
+            ],
+        ),
+        (
+            "0",
+            &[0, 1, 1, 0, 1, 0, 0],
+            &[
+                "0                                7",
+                "       2       3       5",
+                "         3 428571         3",
+            ],
+        ),
+        (
+            "two_of_three",
+            &[1, 1, 0],
+            &[
+                "two_of_three                     3",
+                "       1       2",
+                "         2 666666         2",
+            ],
+        ),
+        (
+            "T",
+            &[1],
+            &[
+                "T                                1",
+                "       1",
+                "         11000000         0",
+            ],
+        ),
+    ];
+    for (name, verdicts, rows) in pages {
+        check_page(name, verdicts, &page(rows));
+    }
+}
+
+/// The longest page; its time is printed, for a reader of `--nocapture`.
+#[test]
+fn longest_page() {
+    let verdicts = vec![1; 524_288];
+    let mut buffer = vec![b'x'; 4_246_912];
+    let began = Instant::now();
+    let length = session_page(b"G", &verdicts, &mut buffer);
+    println!("524,288 rejected cycles: {:?}", began.elapsed());
+    assert_eq!(length, Ok(4_246_911));
+    let lines: Vec<&[u8]> = buffer.split_inclusive(|byte| *byte == b'\n').collect();
+    assert_eq!((lines.len(), lines[52_431]), (52_432, &b"x"[..]));
+    assert_eq!(
+        lines[0],
+        page(&["G                           524288"]),
+        "title"
+    );
+    for (ten, line) in lines[1..52_429].iter().enumerate() {
+        let cells = (10 * ten + 1..=10 * ten + 10).map(|cycle| format!("{cycle:>8}"));
+        assert_eq!(*line, page(&[&cells.collect::<String>()]), "{ten}");
+    }
+    let last = page(&[
+        "  524281  524282  524283  524284  524285  524286  524287  524288",
+        "    5242881000000         0",
+    ]);
+    assert_eq!(lines[52_429..52_431].concat(), last);
+}
+
+/// Too many verdict bytes; a wrong name or verdict byte; a short buffer: the first decides.
+#[test]
+fn refused_pages() {
+    let (too_many, mut last_wrong) = (vec![1; 524_289], vec![0; 524_288]);
+    last_wrong[524_287] = 2;
+    let wide = [b'a'; 25];
+    let pages: [(&[u8], &[u8], usize, u32); 27] = [
+        (b"", &[1], 300, 22),
+        (&wide, &[1], 300, 22),
+        (b"a b", &[1], 300, 22),
+        (b"a-b", &[1], 300, 22),
+        (b"\xe9", &[1], 300, 22),
+        (b"a\n", &[1], 300, 22),
+        (b"a\0", &[1], 300, 22),
+        (b"@", &[1], 300, 22),
+        (b"[", &[1], 300, 22),
+        (b"`", &[1], 300, 22),
+        (b"{", &[1], 300, 22),
+        (b"/", &[1], 300, 22),
+        (b":", &[1], 300, 22),
+        (b"a^", &[1], 300, 22),
+        (b"G", &[2], 300, 22),
+        (b"G", &[0, 1, 255], 300, 22),
+        (b"G", b"0", 300, 22),
+        (b"G", &last_wrong, 300, 22),
+        (b"", &too_many, 300, 1),
+        (b"G", &too_many, 300, 1),
+        (b"G", &too_many, 0, 1),
+        (b"G", &[], 161, 12),
+        (b"G", &[], 0, 12),
+        (b"G", &[1], 242, 12),
+        (b"G", &[0; 524_288], 161, 12),
+        (b"", &[], 0, 22),
+        (b"G", &[2], 161, 22),
+    ];
+    for (name, verdicts, lent, number) in pages {
+        let shown = name.escape_ascii();
+        let refused = Refusal { number, line: 0 };
+        let mut buffer = vec![b'x'; 300];
+        let answer = session_page(name, verdicts, &mut buffer[..lent]);
+        assert_eq!(answer, Err(refused), "{shown}, {lent}");
+        let mut length = 77;
+        let code = raw::session_page(name, verdicts, &mut buffer[..lent], &mut length);
+        assert_eq!((code, length), (u64::from(number) << 32, 77), "{shown}");
+        assert_eq!(buffer, [b'x'; 300], "{shown}, {lent}");
+    }
+}
+
+#[test]
+fn page_of_a_run() {
+    let ([(_, verdicts)], _) = runs_of_g([b"110\n111\n010\n"]);
+    let due = page(&[
+        "G                                3",
+        "       1",
+        "         1 333333         1",
+    ]);
+    check_page("G", &verdicts[..3], &due);
+}
+
 /// A netlist of one input and a latch for each reset, whose output is the input.
 fn latches_with(resets: &[u16]) -> Vec<u16> {
     let count = resets.len() as u16;
@@ -349,6 +571,8 @@ fn empty_slices() {
     assert_eq!(build(b"", &mut []), Err(refusal(10, 0)));
     assert_eq!(read(b"", &mut []), Err(refusal(13, 1)));
     assert_eq!(write(&[], &mut []), Err(refusal(16, 0)));
+    assert_eq!(session_page(b"", &[], &mut []), Err(refusal(22, 0)));
+    assert_eq!(session_page(b"G", &[], &mut []), Err(refusal(12, 0)));
     // No latch, no gate, no cycle: nothing is lent but two value words.
     let net = [1, 1, 0, 1, 0, 2];
     let mut tally = Tally::default();

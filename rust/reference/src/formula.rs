@@ -186,7 +186,8 @@ impl<'a> Reader<'a> {
     }
 }
 
-fn is_name_byte(byte: u8) -> bool {
+/// "Letters, digits or `_`."
+pub fn is_name_byte(byte: u8) -> bool {
     byte.is_ascii_alphanumeric() || byte == b'_'
 }
 

@@ -1,5 +1,6 @@
-//! Document 01, as No. 2 of document 02 changes it, and Nos. 8 and 12 of document 02,
-//! once more in plain safe Rust, written from their sentences alone.
+//! Document 01, as No. 2 of document 02 changes it, and Nos. 8, 9 and 12 of document 02,
+//! once more in plain safe Rust, written from their sentences alone; and what the program
+//! `sheet` prints.
 //!
 //! Nothing here is proved and nothing is meant to be fast: each module follows
 //! the documents' wording closely enough to be read beside it. The proved
@@ -12,9 +13,11 @@ mod formula;
 mod graph;
 mod lines;
 mod netlist;
+mod page;
 mod paths;
 mod rate;
 mod refusal;
+mod sheet;
 mod simulator;
 #[cfg(test)]
 mod testing;
@@ -26,7 +29,9 @@ pub use builder::{build, formula_of_gates};
 pub use formula::{Formula, Operator};
 pub use graph::{Atom, Edge, Graph};
 pub use netlist::{Gate, Header, Latch, Literal, Netlist, Reset, Variable};
+pub use page::session_page;
 pub use paths::rejected_cycles;
 pub use rate::{per_million, Rate};
 pub use refusal::{Cause, Refusal};
+pub use sheet::sheet;
 pub use simulator::{run, start, step, Tally, Verdict};

@@ -23,6 +23,7 @@ pub enum Cause {
     NoNetlist = 16,
     TallyFull = 17,
     NoRate = 21,
+    NotPrintable = 22,
     VerdictsWrong = 25,
     WidthOutOfRange = 26,
 }

@@ -1,6 +1,6 @@
-//! The fixtures of the two programs, which are limit cases, hold what this implementation gives.
+//! The fixtures of the three programs, which are limit cases, hold what this implementation gives.
 
-use reference::{build, rejected_cycles, write, Graph};
+use reference::{build, rejected_cycles, sheet, write, Graph};
 use std::path::Path;
 
 fn fixture(program: &str, name: &str) -> Vec<u8> {
@@ -44,4 +44,13 @@ fn page_of_the_longest_input() {
     page += &format!("sum\t{}\t{}\t{verdict}\n", cycles.len(), lines.count());
     assert_eq!(page.len(), 250_991);
     assert_eq!(page.into_bytes(), fixture("monitor", "stdout"));
+}
+
+#[test]
+fn sheet_of_the_longest_input() {
+    let input = fixture("sheet", "stdin");
+    assert_eq!(input.len(), 65_536);
+    let page = sheet(&input);
+    assert_eq!(page.len(), 265_518);
+    assert!(page == fixture("sheet", "stdout"));
 }

@@ -6,8 +6,9 @@ use native.Mathlib.Omega.{arith}
 use lib.ListN.{length, drop}
 use borrow.Author.Tests.{eq-eqb, ne-eqb}
 use borrow.Author.Needs.{needs}
-use Rattle.first_broken.specs.Refusals.{allBits, areVerdicts}
-use Rattle.first_broken.proofs.RefusalLaws.{bits-end, bits-here, bits-next}
+use Rattle.trace.specs.Verdicts.{allBits}
+use Rattle.first_broken.specs.Refusals.{areVerdicts}
+use Rattle.trace.proofs.VerdictLaws.{bits-end, bits-here, bits-next}
 use Rattle.first_broken.proofs.refusal.are_verdicts.Statement.{statement}
 use Rattle.first_broken.proofs.refusal.are_verdicts.Tie as tie
 

@@ -1,0 +1,3 @@
+-- The root of the definitions that the contracts of judge cite, in reading order.
+pub mod Judge
+pub mod Private

@@ -1,0 +1,144 @@
+-- What is printed of an input is what the contract claims. Assumes nothing.
+use mathlib.Core.Path.{_≡_, refl, ap, subst, _∙_}
+use mathlib.Core.Bool.{Bool, true, false, cond}
+use mathlib.Core.List.{List, [], _++_, append-assoc}
+use Prim.Native.Nat.{ℕ, zero, suc, _+_, _≤_}
+use native.Mathlib.Omega.{arith}
+use borrow.Author.Tests.{le-leb}
+use lib.Dec.{eqb, leb}
+use lib.ListN.{length, getD}
+use Rattle.text.specs.Quoted.{bytes}
+use Rattle.text.specs.declared.Refusal.{Refusal}
+use Rattle.text.specs.Numbers.{digits, digitsOf}
+use Rattle.text.specs.Writer.{joined}
+use Rattle.assertion.specs.Graph.{Bytes, Graph}
+use Rattle.assertion.specs.Paths.{verdicts, PathsMean}
+use Rattle.assertion.proofs.PathLaws.{paths-mean}
+use Rattle.graph.specs.Reading.{Outcome, refused, accepted, graphOf}
+use Rattle.builder.specs.Build as build
+use Rattle.builder.specs.Build.{variablesOf}
+use Rattle.builder.specs.declared.Cause.the-variants.{TooManyVariables}
+use Rattle.trace.specs.Traces.{faultOf, cyclesOf}
+use Rattle.calls.specs.Refusals as simulator
+use Rattle.calls.specs.declared.refusal.Cause.the-variants.{WrongLine}
+use Rattle.demand.proofs.Held.{verdicts-length}
+use Rattle.judge.specs.Judge.{inputsOf}
+use Rattle.judge.proofs.EndLaws.{cycles-most}
+use Rattle.page_text.specs.Parts.{graphPart, tracePart}
+use Rattle.page_text.specs.Lines.{field, refusedLine, rejectedLine, sumLine, cycleLine, report}
+use Rattle.page.specs.declared.Paged.{Paged}
+use Rattle.page.specs.Pages.{graphPage, judgement, tracePage, monitorText, pageEnd, pageOf}
+use Rattle.page.proofs.LengthLaws.{trace-any}
+use Rattle.session_text.specs.Pages.{rejectedOf, sessionPage}
+use Rattle.session_text.proofs.RejectedLaws.{rejected-are}
+use Rattle.session_text.proofs.PageLaws.{in-columns}
+use Rattle.sheet_page.specs.declared.InputFault.the-variants.{TooLong, NoGraphName}
+use Rattle.sheet_page.specs.Sheets.{inputRefusal, traceSheet, sheetText}
+use Rattle.sheet_page.specs.Claims.{SheetMeans}
+use Rattle.sheet_page.proofs.NameLaws.{not-named, rest-shorter}
+use Rattle.sheet_page.proofs.LengthLaws.{sheet-fits}
+use Rattle.sheet_page.proofs.SheetLaws.{restSheet, long-sheet, unnamed-sheet, named-sheet}
+
+-- ---- no judgement is the line of a refusal: it starts with `R` or `s`
+abbrev first : List ℕ → ℕ
+first s = getD s 0 0
+
+refused-first : (r : Refusal) → first (refusedLine r) ≡ 114
+unfolding refusedLine
+refused-first r = refl
+
+cycles-first : (judged : List ℕ) (n : ℕ) (tail : List ℕ) → (first tail ≡ 114 → ⊥) → first (joined (cycleLine judged) n ++ tail) ≡ 114 → ⊥
+unfolding cycleLine rejectedLine
+cycles-first judged zero tail h e = h e
+cycles-first judged (suc n) tail h e =
+    cycles-first judged n (cycleLine judged n ++ tail) (line (eqb (getD judged n 0) 1)) (rw append-assoc at e)
+  where
+    line : (b : Bool) → first (cond b (rejectedLine (n + 1)) [] ++ tail) ≡ 114 → ⊥
+    line true z = omega arith
+    line false z = h z
+
+judgement-first : (g : Graph) (cycles : List Bytes) (r : Refusal) → judgement g cycles ≡ refusedLine r → ⊥
+unfolding judgement report sumLine
+judgement-first g cycles r e =
+    cycles-first (verdicts g [] cycles) (length (verdicts g [] cycles)) _ (λ z. omega arith) (ap first e ∙ refused-first r)
+
+-- ---- what the monitor refuses is refused alike
+module _ (r : Refusal) where
+  trace-alike : (name trace : Bytes) (g : Graph) → tracePage trace g ≡ refusedLine r → traceSheet name trace g ≡ refusedLine r
+  unfolding tracePage traceSheet
+  trace-alike name trace g = go (eqb (faultOf (inputsOf g) trace) 0)
+    where
+      cycles : List Bytes
+      cycles = cyclesOf (inputsOf g) trace
+
+      wrong : Bytes
+      wrong = refusedLine (simulator.refusalOf (WrongLine (faultOf (inputsOf g) trace)))
+
+      go : (b : Bool) → cond b (judgement g cycles) wrong ≡ refusedLine r → cond b (sessionPage name (verdicts g [] cycles)) wrong ≡ refusedLine r
+      go true e = absurd (judgement-first g cycles r e)
+      go false e = e
+
+  graph-alike : (p q : Graph → Bytes) → ((g : Graph) → p g ≡ refusedLine r → q g ≡ refusedLine r)
+      → (o : Outcome) → graphPage o p ≡ refusedLine r → graphPage o q ≡ refusedLine r
+  unfolding graphPage
+  graph-alike p q alike (refused c) e = e
+  graph-alike p q alike (accepted g) e = go (leb (variablesOf g) 4095) e
+    where
+      many : Bytes
+      many = refusedLine (build.refusalOf TooManyVariables)
+
+      go : (b : Bool) → cond b (p g) many ≡ refusedLine r → cond b (q g) many ≡ refusedLine r
+      go true e = alike g e
+      go false e = e
+
+  pub rest-alike : (name rest : Bytes) → length rest ≤ 65536 → monitorText rest ≡ refusedLine r → restSheet name rest ≡ refusedLine r
+  unfolding monitorText
+  rest-alike name rest short e =
+      graph-alike (tracePage (tracePart rest)) (traceSheet name (tracePart rest)) (trace-alike name (tracePart rest))
+      (graphOf (graphPart rest))
+      (rw (le-leb (length rest) 65536 short) at e)
+
+-- ---- every other input has its sheet
+rest-judged : (name rest : Bytes) (g : Graph) → graphOf (graphPart rest) ≡ accepted g → variablesOf g ≤ 4095 → faultOf (inputsOf g) (tracePart rest) ≡ 0
+    → restSheet name rest ≡ sessionPage name (verdicts g [] (cyclesOf (inputsOf g) (tracePart rest)))
+unfolding graphPage traceSheet
+rest-judged name rest g read small right = rw (read, le-leb (variablesOf g) 4095 small, right)
+
+module _ (input : Bytes) (Prints : List ℕ → Type 0) (printed : Prints (sheetText input)) where
+  prints : {page : List ℕ} → sheetText input ≡ page → Prints page
+  prints e = subst Prints e printed
+
+  long-line : refusedLine (inputRefusal TooLong) ≡ bytes "refused\t1\t0\n"
+  unfolding inputRefusal refusedLine field digits digitsOf
+  long-line = refl
+
+  unnamed-line : refusedLine (inputRefusal NoGraphName) ≡ bytes "refused\t22\t0\n"
+  unfolding inputRefusal refusedLine field digits digitsOf
+  unnamed-line = refl
+
+  pub sheet-means : SheetMeans input Prints
+  sheet-means =
+      record {
+        too-long = λ h. prints (long-sheet input h ∙ long-line);
+        no-name = λ short never. prints (unnamed-sheet input short (not-named input short never) ∙ unnamed-line);
+        as-monitor = λ name rest n r e. prints (named-sheet input n ∙ rest-alike r name rest (omega (arith, n .short, rest-shorter n)) e);
+        sheet = λ name rest n g read small right.
+            let cycles = cyclesOf (inputsOf g) (tracePart rest) in
+            let judged = verdicts g [] cycles in
+            let few : length judged ≤ 524288 = omega (arith, verdicts-length g [] cycles, cycles-most g (tracePart rest), trace-any rest (omega (arith, n .short, rest-shorter n))) in
+            record {
+              rejected = rejectedOf judged;
+              page = sessionPage name judged;
+              are = rejected-are judged;
+              in-columns = in-columns name judged (n .named .most) few;
+              printed = prints (named-sheet input n ∙ rest-judged name rest g read small right);
+            };
+      }
+
+-- ---- all that the contract says of an answer, which is of the page of the input
+pub page-means : (input out : List ℕ) {r : Paged} {left text : List ℕ} → pageEnd r left ≡ pageOf text out → text ≡ sheetText input
+    → (pageEnd r left ≡ pageOf (sheetText input) out)
+    × ((length (sheetText input) ≤ 265518) × (PathsMean × SheetMeans input (λ page. pageEnd r left ≡ pageOf page out)))
+page-means input out {r} {left} e same =
+    let is : pageEnd r left ≡ pageOf (sheetText input) out = e ∙ ap (λ (page : List ℕ). pageOf page out) same in
+    (is, (sheet-fits input, (paths-mean, sheet-means input (λ page. pageEnd r left ≡ pageOf page out) is)))

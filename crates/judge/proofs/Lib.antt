@@ -2,3 +2,4 @@
 pub mod BuildLaws
 pub mod EndLaws
 mod JudgedLaws
+mod ClaimLaws

@@ -1,6 +1,6 @@
 // The judgement of a trace by a graph text: its monitor is built, started and run over the trace, with a verdict byte
 // for each cycle. Knows nothing of how a judgement is printed. Exports that the answer and the bytes are those that
-// settings and paths give, without the monitor.
+// settings and paths give, without the monitor: the clause `judges` of `judge`.
 use builder::Built;
 use calls::Tally;
 use simulator::RunOutcome;
@@ -9,6 +9,7 @@ use text::Refusal;
 ghost use mathlib.Core.Path.{_≡_};
 ghost use Rattle.assertion.specs.Paths.{PathsMean};
 ghost use Rattle.judge.specs.Judge.{refusalOf, judgeEnd, judgeOf};
+ghost use Rattle.judge.specs.Claims.{JudgeMeans, RefusedFor, GivenAs};
 ghost use Rattle.judge.specs.Private.Machine.{machineJudged};
 
 // The most numbers of a netlist: five, two for each latch and gate, of which M = 4,095 leaves 4,094, and one for
@@ -78,6 +79,7 @@ fn judged_run(net: &[u16], trace: &[u8], verdicts: &mut [u8]) -> Judged
 pub fn judge(graph: &[u8], trace: &[u8], verdicts: &mut [u8]) -> Judged
     ensures { λ r. ⌜ judgeEnd r (now (verdicts .exit)) ≡ judgeOf (now (graph .entry)) (now (trace .entry)) (now (verdicts .entry)) ⌝ }
     ensures paths { λ _. ⌜ PathsMean ⌝ }
+    ensures judges { λ r. ⌜ JudgeMeans (now (graph .entry)) (now (trace .entry)) (now (verdicts .entry)) (now (verdicts .exit)) (RefusedFor r) (GivenAs r) ⌝ }
 {
     let mut net = [0u16; MAX_NUMBERS];
     let built = builder::build(graph, &mut net);

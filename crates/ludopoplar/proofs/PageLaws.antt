@@ -1,18 +1,18 @@
 -- What the clauses of lay_out give the call that lays out a session page. Assumes nothing.
-use mathlib.Core.Path.{_≡_, refl, ap, sym, _∙_}
+use mathlib.Core.Path.{_≡_, ap, sym, _∙_}
 use mathlib.Core.List.{List}
 use Prim.Native.Nat.{ℕ, _+_, _*_, _^_}
 use native.Mathlib.Omega.{arith}
 use Rattle.session_page.specs.declared.Cause.{Cause}
 use Rattle.session_page.specs.declared.Laid.{Laid}
 use Rattle.session_page.specs.declared.Laid.the-variants.{Bytes, Refused}
-use Rattle.session_page.specs.LayOut.{LaidEnd, laidEnd, refusalOf, layOutOf}
+use Rattle.session_page.specs.LayOut.{LaidEnd, laidEnd, layOutOf}
 use Rattle.session_page.specs.Claims.{LaysOut, RefusedFor, GivenTells}
 use Rattle.session_page.proofs.ClaimLaws.{lays-told}
 use Rattle.ludopoplar.specs.Codes.{codeOf}
 use Rattle.ludopoplar.specs.Circuits.{Filled, filled}
 use Rattle.ludopoplar.specs.Pages.{pageAs, sessionPageCall}
-use Rattle.ludopoplar.specs.Claims.{Numbered, CallLays, CallTells}
+use Rattle.ludopoplar.specs.Claims.{CallLays, CallTells}
 use Rattle.ludopoplar.proofs.NumberLaws.{numbered}
 
 -- code and length of the answer

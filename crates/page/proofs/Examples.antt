@@ -74,6 +74,8 @@ monitorRows =
     -- no trace, and one whose second line is wrong
     ∷ row "V\ta\n" "sum\t0\t0\taccepted\n"
     ∷ row "V\ta\nT\n1\n11\n" "refused\t15\t2\n"
+    -- a line `T` that is the first: an empty graph, which has no vertex
+    ∷ row "T\n1\n" "refused\t10\t0\n"
     ∷ []
 
 -- ---- the program that prints AIGER

@@ -1,2 +1,3 @@
--- The laws that belong to no one function, for the crate above.
+-- The laws that belong to no one function, for the crates above.
 pub mod PartLaws
+pub mod ClaimLaws

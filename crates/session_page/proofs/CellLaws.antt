@@ -1,6 +1,6 @@
 -- The lines of rejected cycles, as they are written cycle by cycle. Assumes nothing.
 use mathlib.Core.Path.{_≡_, refl, sym, ap, ap₂, _∙_}
-use mathlib.Core.Bool.{Bool, true, false, cond}
+use mathlib.Core.Bool.{cond}
 use mathlib.Core.List.{List, [], _∷_, _++_, append-assoc, append-nil}
 use Prim.Native.Nat.{ℕ, zero, suc, _+_, _-_, _*_, _/_, _%_, _<_, _≤_}
 use native.Mathlib.Numerals.{add-one}
@@ -42,7 +42,7 @@ pub cells-none : cellsText [] ≡ []
 unfolding cellsText
 cells-none = refl
 
-pub cells-more : (cells : List ℕ) (cycle : ℕ) → cellsText (cells ++ (cycle ∷ [])) ≡ cellsText cells ++ cellText (length cells) cycle
+cells-more : (cells : List ℕ) (cycle : ℕ) → cellsText (cells ++ (cycle ∷ [])) ≡ cellsText cells ++ cellText (length cells) cycle
 unfolding cellsText
 cells-more cells cycle =
     let more = cells ++ (cycle ∷ []) in

@@ -1,12 +1,12 @@
 -- What lay_out answers and leaves at each of its ends, and that it is what its contract claims. Assumes nothing.
 use mathlib.Core.Path.{_≡_, refl, sym, ap, subst, _∙_}
-use mathlib.Core.Bool.{Bool, true, false, cond, not, _&&_, and-false}
+use mathlib.Core.Bool.{Bool, true, false, cond, and-false}
 use mathlib.Core.List.{List, _++_}
 use Prim.Native.Nat.{ℕ, _+_, _*_, _/_, _<_, _≤_}
 use native.Mathlib.Nat.{zero-add}
 use native.Mathlib.Omega.{arith}
 use borrow.Author.Tests.{lt-ltb, le-ltb}
-use lib.ListN.{length, take, drop, length-append}
+use lib.ListN.{length, take, drop}
 use lib.Seq.{take-at}
 use Rattle.text.specs.Writer.{top, Wrote}
 use Rattle.text.proofs.WriterLaws.{fits}
@@ -21,7 +21,6 @@ use Rattle.session_page.specs.declared.Cause.{Cause}
 use Rattle.session_page.specs.declared.Cause.the-variants.{TooManyCycles, ShortBuffer, NotPrintable}
 use Rattle.session_page.specs.declared.Laid.{Laid}
 use Rattle.session_page.specs.declared.Laid.the-variants.{Bytes, Refused}
-use Rattle.session_page.specs.declared.printable.Count.{Count}
 use Rattle.session_page.specs.declared.printable.Count.the-variants as count
 use Rattle.session_page.specs.LayOut.{refusalOf, isGraphName, isPrintable, laidEnd, layOutOf}
 use Rattle.session_page.specs.Claims.{LaysOut, RefusedFor, GivenTells}

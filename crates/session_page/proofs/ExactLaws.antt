@@ -1,21 +1,21 @@
 -- The clause `lays` leaves nothing open: whatever answer and buffer it holds of are those that the definition gives.
 -- Assumes nothing.
-use mathlib.Core.Path.{_≡_, refl, sym, ap, ap₂, subst, _∙_}
+use mathlib.Core.Path.{_≡_, refl, ap, subst, _∙_}
 use mathlib.Core.Bool.{Bool, true, false, _&&_}
-use mathlib.Core.List.{List, _++_}
-use Prim.Native.Nat.{ℕ, _+_, _*_, _/_, _<_, _≤_}
+use mathlib.Core.List.{List}
+use Prim.Native.Nat.{ℕ, _+_, _*_, _/_, _≤_}
 use native.Mathlib.Omega.{arith}
 use borrow.Author.Tests.{lt-ltb, le-ltb}
-use lib.ListN.{length, drop}
+use lib.ListN.{length}
 use Rattle.text.proofs.NumberLaws.{and-both}
 use Rattle.trace.specs.Verdicts.{allBits}
 use Rattle.session_text.specs.Pages.{rejectedOf, sessionPage}
-use Rattle.session_text.specs.Claims.{Printable, Rejected, InColumns}
+use Rattle.session_text.specs.Claims.{Printable, InColumns}
 use Rattle.session_text.proofs.RejectedLaws.{rejected-are}
 use Rattle.session_text.proofs.PageLaws.{page-length, in-columns}
 use Rattle.session_text.proofs.ExactLaws.{one-list, one-page}
 use Rattle.session_page.specs.declared.Laid.{Laid}
-use Rattle.session_page.specs.declared.Laid.the-variants.{Bytes, Refused}
+use Rattle.session_page.specs.declared.Laid.the-variants.{Bytes}
 use Rattle.session_page.specs.LayOut.{isGraphName, isPrintable, laidEnd, layOutOf}
 use Rattle.session_page.specs.Claims.{LaysOut, RefusedFor}
 use Rattle.session_page.specs.Claims.LaysOut.{too-many, not-printable, short, laid-out}

@@ -5,3 +5,4 @@ mod CellLaws
 mod EndLaws
 pub mod ClaimLaws
 mod ExactLaws
+mod Examples

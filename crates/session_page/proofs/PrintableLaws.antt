@@ -1,11 +1,11 @@
 -- Which names and verdict bytes can be laid out, as the code tests them and as the claims say it. Assumes nothing.
 use mathlib.Core.Path.{_≡_, refl, sym, ap, _∙_}
-use mathlib.Core.Bool.{Bool, true, false, cond, _&&_, and-false, true≢false}
+use mathlib.Core.Bool.{Bool, true, false, _&&_, and-false, true≢false}
 use mathlib.Core.List.{List, [], _∷_, _++_}
 use Prim.Native.Nat.{ℕ, zero, suc, _+_, _<_, _≤_}
 use native.Mathlib.Numerals.{add-one}
 use native.Mathlib.Omega.{arith}
-use native.Mathlib.Decide.{ℕ-discrete, decLe, decLt}
+use native.Mathlib.Decide.{decLt}
 use borrow.Author.Tests.{le-leb, lt-leb, leb-true, eq-eqb, eqb-true}
 use lib.Dec.{eqb, leb}
 use lib.ListN.{length, getD, take, drop, length-append, List·getD-eq-default}
@@ -16,14 +16,14 @@ use Rattle.formula.specs.declared.Class.the-variants.{Other, Letter, Digit, Und
 use Rattle.formula.specs.Classes.{pick, within, classOf, isWordClass, inName, run, nameBytes}
 use Rattle.formula.proofs.NameLaws.{all-run}
 use Rattle.trace.specs.Verdicts.{allBits}
-use Rattle.trace.proofs.VerdictLaws.{bits, all-bits, bits-end, bits-here, bits-next}
+use Rattle.trace.proofs.VerdictLaws.{bits, all-bits, bits-end}
 use Rattle.session_text.specs.Pages.{rejectedFrom, rejectedOf}
 use Rattle.session_text.specs.Claims.{WordByte, GraphName, Printable}
 use Rattle.session_text.specs.Claims.WordByte.{capital, small, digit, underscore}
 use Rattle.session_text.proofs.RejectedLaws.{rejected-yes, rejected-no, rejected-none, rejected-snoc}
-use Rattle.session_page.specs.declared.printable.Count.{Count}
 use Rattle.session_page.specs.declared.printable.Count.the-variants.{Rejected, NotBits}
-use Rattle.session_page.specs.LayOut.{isGraphName, isPrintable}
+use Rattle.session_page.specs.LayOut.{isGraphName}
+use Rattle.session_page.specs.Claims.{NameMeans}
 use Rattle.session_page.specs.Private.Writers.{countOf}
 
 -- ---- a graph name, by the code's tests
@@ -136,6 +136,11 @@ graph-name name e =
 pub is-graph-name : (name : List ℕ) → GraphName name → isGraphName name ≡ true
 unfolding isGraphName
 is-graph-name name n = rw (le-leb 1 (length name) (n .some), le-leb (length name) 24 (n .most), words-are name (n .words))
+
+-- what is claimed of an answer that is what the definition gives
+pub name-answered : (name : List ℕ) {answer : Bool} → answer ≡ isGraphName name → (answer ≡ isGraphName name) × NameMeans name answer
+name-answered name e =
+    (e, record { is = λ h. graph-name name (sym e ∙ h); is-none = λ h n. true≢false (sym (is-graph-name name n) ∙ sym e ∙ h) })
 
 pub printable : (name verdicts : List ℕ) → isGraphName name ≡ true → allBits verdicts ≡ true → Printable name verdicts
 printable name verdicts e judged = record { named = graph-name name e; bits = λ k l. bits verdicts judged k }

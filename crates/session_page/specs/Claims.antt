@@ -1,15 +1,21 @@
 -- What the contract of lay_out claims of its answer and of the lent buffer, without the tests of the definition. Assumes
 -- nothing.
 use mathlib.Core.Path.{_≡_}
+use mathlib.Core.Bool.{Bool, true, false}
 use mathlib.Core.List.{List, _++_}
 use Prim.Native.Nat.{ℕ, _+_, _*_, _/_, _<_, _≤_}
 use lib.ListN.{length, take, drop}
-use Rattle.session_text.specs.Claims.{Printable, Rejected, InColumns, Tells}
+use Rattle.session_text.specs.Claims.{GraphName, Printable, Rejected, InColumns, Tells}
 use Rattle.session_page.specs.declared.Cause.{Cause}
 use Rattle.session_page.specs.declared.Cause.the-variants.{TooManyCycles, ShortBuffer, NotPrintable}
 use Rattle.session_page.specs.declared.Laid.{Laid}
 use Rattle.session_page.specs.declared.Laid.the-variants as laid
 use Rattle.session_page.specs.LayOut.{refusalOf}
+
+-- an answer tells whether bytes are a graph name
+pub record NameMeans (name : List ℕ) (answer : Bool) : Type 0 where
+  pub is : answer ≡ true → GraphName name
+  pub is-none : answer ≡ false → GraphName name → ⊥
 
 -- WHAT A CALL SAYS that found `before` in the lent buffer and left `after`. Refuses cause number line: it refuses so, for
 -- this cause. Gives n: the page has n bytes.

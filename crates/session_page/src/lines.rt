@@ -24,7 +24,7 @@ pub(crate) fn put_title(out: &mut [u8], at: usize, name: &[u8], cycles: usize) -
     put_rest(out, p3, 34)
 }
 
-// Appends a cycle that is rejected, where so many stand on the page; the tenth ends its line.
+// Appends a cycle if it is rejected, where so many rejected ones stand before it; the tenth of a line ends it.
 fn put_cycle(out: &mut [u8], at: usize, verdict: u8, cycle: usize, cells: usize) -> usize
     ensures { λ r. ⌜ Wrote (now (out .entry)) (now (out .exit)) at r (cycleText cells verdict cycle) ⌝ }
 {

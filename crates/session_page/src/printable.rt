@@ -1,6 +1,7 @@
 // What may be laid out: a graph name, and verdict bytes, of which the rejected are counted.
 ghost use mathlib.Core.Path.{_≡_};
 ghost use Rattle.session_page.specs.LayOut.{isGraphName};
+ghost use Rattle.session_page.specs.Claims.{NameMeans};
 ghost use Rattle.session_page.specs.Private.Writers.{countOf};
 
 // A graph name has at most so many bytes.
@@ -9,6 +10,7 @@ const LONGEST_NAME: usize = 24;
 // Whether the bytes are a graph name: letters, digits and `_`, 1 to 24.
 pub fn is_graph_name(name: &[u8]) -> bool
     ensures { λ r. ⌜ r ≡ isGraphName (now (name .entry)) ⌝ }
+    ensures named { λ r. ⌜ NameMeans (now (name .entry)) r ⌝ }
 {
     if name.len() == 0 {
         return false;

@@ -10,10 +10,11 @@ use Rattle.text.specs.Writer.{joined}
 use Rattle.session_text.specs.Fields.{blanks, right}
 use Rattle.session_text.specs.Pages.{cell, cellLine}
 use Rattle.session_text.specs.Claims.{Right, columns}
-use Rattle.session_text.proofs.PieceLaws.{number, piece-at, joined-length, Split, split}
+use Rattle.session_text.proofs.FieldLaws.{widths}
+use Rattle.session_text.proofs.PieceLaws.{piece-at, joined-length, Split, split}
 
 module _ (rejected : List ℕ) (small : (j : ℕ) → j < length rejected → getD rejected j 0 ≤ 524288) where
-  pub cell-number : (j : ℕ) → j < length rejected → cell rejected j ≡ right 8 (getD rejected j 0)
+  cell-number : (j : ℕ) → j < length rejected → cell rejected j ≡ right 8 (getD rejected j 0)
   unfolding cell
   cell-number j h = rw (lt-ltb j (length rejected) h)
 
@@ -23,9 +24,9 @@ module _ (rejected : List ℕ) (small : (j : ℕ) → j < length rejected → ge
 
   pub cell-field : (j : ℕ) → j < length rejected → Right 8 (getD rejected j 0) (cell rejected j)
   cell-field j h =
-      subst (Right 8 (getD rejected j 0)) (sym (cell-number j h)) (number 8 (getD rejected j 0) (omega arith) (omega (arith, small j h)))
+      subst (Right 8 (getD rejected j 0)) (sym (cell-number j h)) (widths 8 (getD rejected j 0) (omega arith) (omega (arith, small j h)) .field)
 
-  pub cell-length : (j : ℕ) → length (cell rejected j) ≡ 8
+  cell-length : (j : ℕ) → length (cell rejected j) ≡ 8
   cell-length j = go (decLt j (length rejected))
     where
       go : Dec (j < length rejected) → length (cell rejected j) ≡ 8
@@ -38,7 +39,7 @@ module _ (rejected : List ℕ) (small : (j : ℕ) → j < length rejected → ge
   cells-length : (i n : ℕ) → length (joined (cellsOf i) n) ≡ n * 8
   cells-length i n = joined-length 8 (cellsOf i) (λ j. cell-length (10 * i + j)) n
 
-  pub line-length : (i : ℕ) → length (cellLine rejected i) ≡ 81
+  line-length : (i : ℕ) → length (cellLine rejected i) ≡ 81
   unfolding cellLine
   line-length i = omega (arith, length-append (joined (cellsOf i) 10) (10 ∷ []), cells-length i 10)
 

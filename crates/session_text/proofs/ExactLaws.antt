@@ -6,11 +6,12 @@ use Prim.Native.Nat.{ℕ, zero, suc, _+_, _-_, _*_, _/_, _%_, _<_, _≤_}
 use native.Mathlib.Nat.{mul-le-mul-right, suc-mul}
 use native.Mathlib.Omega.{arith}
 use native.Mathlib.Decide.{decLt}
-use lib.ListN.{length, getD, take, drop, replicate, length-append, length-replicate, length-take, length-drop, take-append-drop}
+use lib.ListN.{length, getD, take, drop, replicate, length-append, length-replicate, length-drop, take-append-drop}
 use lib.Seq.{take-add, drop-drop, ext-getD}
 use Rattle.text.specs.Numbers.{digits}
 use Rattle.rate.specs.Claims.{Division}
-use Rattle.session_text.specs.Claims.{Left, Right, Rejected, columns, restBlank, LastLine, InColumns}
+use Rattle.session_text.specs.Claims.{Left, Right, Rejected, columns, LastLine, InColumns}
+use Rattle.session_text.proofs.FieldLaws.{right-digits}
 
 -- ---- the rejected cycles
 module _ {v r s : List ℕ} (p : Rejected v r) (q : Rejected v s) where
@@ -91,8 +92,8 @@ right-exact {width} {n} {s} {t} p q =
     let e : p .blanks ≡ q .blanks =
     omega (
       arith,
-      ap length (p .filled),
-      ap length (q .filled),
+      ap length (right-digits p),
+      ap length (right-digits q),
       p .wide,
       q .wide,
       length-append (replicate (p .blanks) 32) (digits n),
@@ -100,7 +101,7 @@ right-exact {width} {n} {s} {t} p q =
       length-replicate {A = ℕ} (p .blanks) 32,
       length-replicate {A = ℕ} (q .blanks) 32,
     ) in
-    p .filled ∙ ap (λ (i : ℕ). replicate i 32 ++ digits n) e ∙ sym (q .filled)
+    right-digits p ∙ ap (λ (i : ℕ). replicate i 32 ++ digits n) e ∙ sym (right-digits q)
 
 left-exact : {width : ℕ} {text s t : List ℕ} → Left width text s → Left width text t → s ≡ t
 left-exact {width} {text} {s} {t} p q =

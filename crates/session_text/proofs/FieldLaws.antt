@@ -1,16 +1,16 @@
 -- A number that has few enough digits is a field of its width, and the field tells the number; a text of bytes that are
 -- not blank is told by its field. Assumes nothing.
 use mathlib.Core.Path.{_≡_, refl, sym, ap, ap₂, subst, _∙_}
-use mathlib.Core.Bool.{Bool, true}
 use mathlib.Core.List.{List, [], _∷_, _++_, append-assoc}
-use Prim.Native.Nat.{ℕ, zero, suc, _-_, _^_, _<_, _≤_}
+use Prim.Native.Nat.{ℕ, zero, suc, _+_, _-_, _*_, _/_, _%_, _^_, _<_, _≤_}
 use native.Mathlib.Nat.{pow-succ', pow-zero}
 use native.Mathlib.Omega.{arith}
-use lib.ListN.{length, replicate, length-append, length-replicate}
-use Rattle.text.specs.Numbers.{digits, valueFrom, isDigit}
-use Rattle.text.proofs.NumberLaws.{tens, digits-length, digits-some, digit-range, EachDigit, each-digits, value-digits}
+use lib.ListN.{length, length-append, length-replicate}
+use Rattle.text.specs.Numbers.{digits, valueFrom}
+use Rattle.text.proofs.NumberLaws.{tens, digits-small, digits-more, digits-ind, digits-length, digits-some, digit-range, EachDigit, each-digits, value-digits}
 use Rattle.session_text.specs.Fields.{blanks, left, right, row}
-use Rattle.session_text.specs.Claims.{Left, Right, FieldFits, Widths, restBlank}
+use Rattle.session_text.specs.Claims.{Decimal, Left, Right, Widths, restBlank}
+use Rattle.session_text.specs.Claims.Decimal.{one, more}
 
 abbrev heads : List ℕ → ℕ
 heads [] = 0
@@ -30,14 +30,33 @@ digits-fit zero n some h = absurd (omega arith)
 digits-fit (suc k) n some h = digits-length k n (omega (arith, h, tens-power (suc k)))
 
 -- ---- a number's field
-pub right-length : (width n : ℕ) → length (digits n) ≤ width → length (right width n) ≡ width
+right-length : (width n : ℕ) → length (digits n) ≤ width → length (right width n) ≡ width
 unfolding right
 right-length width n h =
     omega (arith, length-append (blanks (width - length (digits n))) (digits n), length-replicate {A = ℕ} (width - length (digits n)) 32)
 
+-- digits are a number in base ten, and no other bytes are
+decimal : (n : ℕ) → Decimal n (digits n)
+decimal =
+    digits-ind (λ n. Decimal n (digits n)) (λ n h. let e : 48 + n % 10 ≡ 48 + n = omega arith in rw (digits-small n h, e) (one n h))
+    (λ n h ih.
+    let e : 10 * (n / 10) + n % 10 ≡ n = omega arith in
+    rw (digits-more n h) (subst (λ (m : ℕ). Decimal m (digits (n / 10) ++ ((48 + n % 10) ∷ []))) e (more (n / 10) (n % 10) (digits (n / 10)) ih (omega arith) (omega arith))))
+
+decimal-digits : {n : ℕ} {s : List ℕ} → Decimal n s → s ≡ digits n
+decimal-digits (one n h) = let e : 48 + n ≡ 48 + n % 10 = omega arith in ap (λ (b : ℕ). b ∷ []) e ∙ sym (digits-small n h)
+decimal-digits (more tens last front d some small) =
+    let n = 10 * tens + last in
+    let q : n / 10 ≡ tens = omega arith in
+    let r : n % 10 ≡ last = omega arith in
+    ap₂ (λ (t : List ℕ) (b : ℕ). t ++ ((48 + b) ∷ [])) (decimal-digits d ∙ ap digits (sym q)) (sym r) ∙ sym (digits-more n (omega arith))
+
+pub right-digits : {width n : ℕ} {field : List ℕ} (p : Right width n field) → field ≡ blanks (p .blanks) ++ digits n
+right-digits {width} {n} {field} p = p .filled ∙ ap (λ (s : List ℕ). blanks (p .blanks) ++ s) (decimal-digits (p .decimal))
+
 pub right-is : (width n : ℕ) → length (digits n) ≤ width → Right width n (right width n)
 unfolding right
-right-is width n h = record { blanks = width - length (digits n); filled = refl; wide = right-length width n h }
+right-is width n h = record { blanks = width - length (digits n); digits = digits n; decimal = decimal n; filled = refl; wide = right-length width n h }
 
 -- digits begin with a byte that is no blank
 record Begins (s : List ℕ) : Type 0 where
@@ -73,7 +92,7 @@ number-told i j m n e =
 
 -- one field is that of one number
 pub right-tells : {width m n : ℕ} {field : List ℕ} → Right width m field → Right width n field → m ≡ n
-right-tells {width} {m} {n} p q = number-told (p .blanks) (q .blanks) m n (sym (p .filled) ∙ q .filled)
+right-tells {width} {m} {n} p q = number-told (p .blanks) (q .blanks) m n (sym (right-digits p) ∙ right-digits q)
 
 -- THE STATEMENT OVER WIDTH AND DIGITS
 pub widths : Widths

@@ -12,8 +12,8 @@ use Rattle.rate.proofs.RateLaws.{refused-none, rated, division}
 use Rattle.session_text.specs.Fields.{blanks, right}
 use Rattle.session_text.specs.Pages.{rateFields, lastLine}
 use Rattle.session_text.specs.Claims.{Right, columns, restBlank, LastLine}
-use Rattle.session_text.proofs.FieldLaws.{row-is}
-use Rattle.session_text.proofs.PieceLaws.{number, piece-at}
+use Rattle.session_text.proofs.FieldLaws.{widths, row-is}
+use Rattle.session_text.proofs.PieceLaws.{piece-at}
 
 -- ---- the last line's rate
 record RateFields (cycles rejected : ℕ) : Type 0 where
@@ -38,11 +38,11 @@ module _ (cycles rejected : ℕ) (few : cycles ≤ 524288) (most : rejected ≤ 
   rate = rateFields (rateOf (record { cycles = cycles; rejected = rejected }))
 
   whole-field : (some : 0 < cycles) → Right 7 (rate-fields cycles rejected most .whole) (right 7 (rate-fields cycles rejected most .whole))
-  whole-field some = number 7 _ (omega arith) (rate-fields cycles rejected most .told some .1 .most)
+  whole-field some = widths 7 (rate-fields cycles rejected most .whole) (omega arith) (omega (arith, rate-fields cycles rejected most .told some .1 .most)) .field
 
   remainder-field : (some : 0 < cycles) → Right 10 (rate-fields cycles rejected most .remainder) (right 10 (rate-fields cycles rejected most .remainder))
   remainder-field some =
-      number 10 (rate-fields cycles rejected most .remainder) (omega arith) (omega (arith, rate-fields cycles rejected most .told some .1 .below))
+      widths 10 (rate-fields cycles rejected most .remainder) (omega arith) (omega (arith, rate-fields cycles rejected most .told some .1 .below)) .field
 
   rate-length : length rate ≡ 17
   rate-length = go (decLt 0 cycles)
@@ -62,7 +62,7 @@ module _ (cycles rejected : ℕ) (few : cycles ≤ 524288) (most : rejected ≤ 
           omega (arith, ap length (rate-fields cycles rejected most .none e), length-replicate {A = ℕ} 17 32)
 
   count-field : Right 10 rejected (right 10 rejected)
-  count-field = number 10 rejected (omega arith) (omega arith)
+  count-field = widths 10 rejected (omega arith) (omega arith) .field
 
   -- the line as its fields
   pub last-is : lastLine cycles rejected ≡ right 10 rejected ++ (rate ++ restBlank 27)

@@ -1,26 +1,12 @@
 -- Pieces of a text: one after another, all of one width, and by what stands before them. Assumes nothing.
 use mathlib.Core.Path.{_≡_, refl, ap, _∙_}
 use mathlib.Core.List.{List, [], _++_, append-assoc, append-nil}
-use Prim.Native.Nat.{ℕ, zero, suc, _+_, _*_, _<_, _≤_}
+use Prim.Native.Nat.{ℕ, zero, suc, _+_, _*_, _<_}
 use native.Mathlib.Omega.{arith}
 use native.Mathlib.Decide.{decLt}
 use lib.ListN.{length, take, drop, length-append}
 use lib.Seq.{take-at, drop-at}
 use Rattle.text.specs.Writer.{joined}
-use Rattle.text.specs.Numbers.{digits}
-use Rattle.session_text.specs.Fields.{right}
-use Rattle.session_text.specs.Claims.{Right}
-use Rattle.session_text.proofs.FieldLaws.{digits-fit, right-is}
-
--- a number of at most seven digits is in its field, of 7 bytes or more
-pub number : (width n : ℕ) → 7 ≤ width → n ≤ 1000000 → Right width n (right width n)
-number width n w h = right-is width n (few width w)
-  where
-    seven : length (digits n) ≤ 7
-    seven = digits-fit 7 n (omega arith) (omega arith)
-
-    few : (width : ℕ) → 7 ≤ width → length (digits n) ≤ width
-    few width w = omega (arith, seven)
 
 -- ---- a piece of a text, by what stands before it
 pub piece-at : (pre field post : List ℕ) (at count : ℕ) → length pre ≡ at → length field ≡ count → take count (drop at (pre ++ (field ++ post))) ≡ field

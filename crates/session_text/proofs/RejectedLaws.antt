@@ -1,16 +1,12 @@
 -- The rejected cycles of verdict bytes: counted from 1, rising, all of them and no others; with the number of cycles they
 -- tell the bytes. Assumes nothing.
-use mathlib.Core.Path.{_≡_, refl, sym, ap, ap₂, _∙_}
-use mathlib.Core.Bool.{Bool, true, false, cond}
+use mathlib.Core.Path.{_≡_, refl, ap, _∙_}
 use mathlib.Core.List.{List, [], _∷_, _++_}
 use Prim.Native.Nat.{ℕ, zero, suc, _+_, _-_, _<_, _≤_}
-use native.Mathlib.Numerals.{add-one}
 use native.Mathlib.Omega.{arith}
-use native.Mathlib.Decide.{ℕ-discrete, decLt}
-use borrow.Author.Tests.{eq-eqb, ne-eqb, eqb-true}
-use lib.Dec.{eqb}
-use lib.ListN.{length, getD, take, length-append, List·getD-eq-default}
-use lib.Seq.{take-suc}
+use native.Mathlib.Decide.{ℕ-discrete}
+use borrow.Author.Tests.{eq-eqb, ne-eqb}
+use lib.ListN.{length, getD, take}
 use Rattle.session_text.specs.Pages.{rejectedFrom, rejectedOf}
 use Rattle.session_text.specs.Claims.{Rejected}
 
@@ -65,7 +61,7 @@ each-within k (b ∷ v) j h = go (ℕ-discrete b 1) j h (each-within (suc k) v)
         let s = rejected-no k b v d in
         rw s (within-next k b v (getD (rejectedFrom (suc k) v) j 0) (ih j (omega (arith, ap length s, h))))
 
-pub each-least : (k : ℕ) (v : List ℕ) (j : ℕ) → j < length (rejectedFrom k v) → k ≤ getD (rejectedFrom k v) j 0
+each-least : (k : ℕ) (v : List ℕ) (j : ℕ) → j < length (rejectedFrom k v) → k ≤ getD (rejectedFrom k v) j 0
 each-least k v j h = each-within k v j h .least
 
 pub each-most : (k : ℕ) (v : List ℕ) (j : ℕ) → j < length (rejectedFrom k v) → getD (rejectedFrom k v) j 0 < k + length v
@@ -119,33 +115,3 @@ rejected-snoc k (c ∷ v) b = go (ℕ-discrete c 1) (rejected-snoc (suc k) v b)
         → rejectedFrom k (c ∷ (v ++ (b ∷ []))) ≡ rejectedFrom k (c ∷ v) ++ rejectedFrom (k + suc (length v)) (b ∷ [])
     go (yes e) ih = let z : k + suc (length v) ≡ suc k + length v = omega arith in rw (rejected-yes k c (v ++ (b ∷ [])) e, rejected-yes k c v e, z, ih)
     go (no d) ih = let z : k + suc (length v) ≡ suc k + length v = omega arith in rw (rejected-no k c (v ++ (b ∷ [])) d, rejected-no k c v d, z, ih)
-
--- ---- the bytes, from their number and the rejected cycles
-clash : (k : ℕ) (v cs : List ℕ) → k ∷ cs ≡ rejectedFrom (suc k) v → ⊥
-clash k v cs e =
-    let l : 0 < length (rejectedFrom (suc k) v) = omega (arith, ap length e) in
-    let i : k ≡ getD (rejectedFrom (suc k) v) 0 0 = ap (λ (s : List ℕ). getD s 0 0) e in
-    omega (arith, each-least (suc k) v 0 l)
-
-tails : List ℕ → List ℕ
-tails [] = []
-tails (x ∷ xs) = xs
-
-pub bytes-told : (k : ℕ) (v w : List ℕ) → ((i : ℕ) → i < length v → getD v i 0 ≤ 1) → ((i : ℕ) → i < length w → getD w i 0 ≤ 1)
-    → length v ≡ length w → rejectedFrom k v ≡ rejectedFrom k w → v ≡ w
-unfolding tails
-bytes-told k [] [] x y l e = refl
-bytes-told k [] (c ∷ w) x y l e = absurd (omega arith)
-bytes-told k (b ∷ v) [] x y l e = absurd (omega arith)
-bytes-told k (b ∷ v) (c ∷ w) x y l e =
-    go (ℕ-discrete b 1) (ℕ-discrete c 1) (bytes-told (suc k) v w (λ i h. x (suc i) (omega arith)) (λ i h. y (suc i) (omega arith)) (omega arith))
-  where
-    go : Dec (b ≡ 1) → Dec (c ≡ 1) → (rejectedFrom (suc k) v ≡ rejectedFrom (suc k) w → v ≡ w) → b ∷ v ≡ c ∷ w
-    go (yes p) (yes q) ih = ap₂ _∷_ (p ∙ sym q) (ih (ap tails (sym (rejected-yes k b v p) ∙ e ∙ rejected-yes k c w q)))
-    go (yes p) (no q) ih = absurd (clash k w (rejectedFrom (suc k) v) (sym (rejected-yes k b v p) ∙ e ∙ rejected-no k c w q))
-    go (no p) (yes q) ih = absurd (clash k v (rejectedFrom (suc k) w) (sym (rejected-yes k c w q) ∙ sym e ∙ rejected-no k b v p))
-    go (no p) (no q) ih =
-        let i = x 0 (omega arith) in
-        let j = y 0 (omega arith) in
-        let same : b ≡ c = omega (arith, p, q, i, j) in
-        ap₂ _∷_ same (ih (sym (rejected-no k b v p) ∙ e ∙ rejected-no k c w q))

@@ -8,12 +8,12 @@ use lib.Seq.{take-at}
 use Rattle.session_text.specs.Fields.{left, right}
 use Rattle.session_text.specs.Pages.{title}
 use Rattle.session_text.specs.Claims.{Right, columns, restBlank}
-use Rattle.session_text.proofs.FieldLaws.{left-length, row-is}
-use Rattle.session_text.proofs.PieceLaws.{number, piece-at}
+use Rattle.session_text.proofs.FieldLaws.{widths, left-length, row-is}
+use Rattle.session_text.proofs.PieceLaws.{piece-at}
 
 module _ (name : List ℕ) (short : length name ≤ 24) (cycles : ℕ) (few : cycles ≤ 524288) where
   pub cycles-field : Right 10 cycles (right 10 cycles)
-  cycles-field = number 10 cycles (omega arith) (omega arith)
+  cycles-field = widths 10 cycles (omega arith) (omega arith) .field
 
   pub title-is : title name cycles ≡ left 24 name ++ (right 10 cycles ++ restBlank 34)
   unfolding title

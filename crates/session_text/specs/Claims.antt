@@ -3,20 +3,18 @@
 use mathlib.Core.Path.{_≡_}
 use mathlib.Core.List.{List, [], _∷_, _++_}
 use Prim.Native.Nat.{ℕ, suc, _+_, _-_, _*_, _/_, _%_, _^_, _<_, _≤_}
+use Prim.Native.Char.{code}
 use lib.ListN.{length, getD, take, drop, replicate}
-use Rattle.text.specs.Quoted.{byte}
-use Rattle.text.specs.Numbers.{digits}
 use Rattle.rate.specs.Claims.{Division}
 use Rattle.session_text.specs.Fields.{right}
-use Rattle.session_text.specs.Pages.{sessionPage}
 
 -- ---- what may be laid out
 -- "letter, digit or `_`"
 pub data WordByte (b : ℕ) : Type 0 where
-  capital : byte "A" ≤ b → b ≤ byte "Z" → WordByte b
-  small : byte "a" ≤ b → b ≤ byte "z" → WordByte b
-  digit : byte "0" ≤ b → b ≤ byte "9" → WordByte b
-  underscore : b ≡ byte "_" → WordByte b
+  capital : code "A" ≤ b → b ≤ code "Z" → WordByte b
+  small : code "a" ≤ b → b ≤ code "z" → WordByte b
+  digit : code "0" ≤ b → b ≤ code "9" → WordByte b
+  underscore : b ≡ code "_" → WordByte b
 
 -- a graph name: neither "empty" nor "over 24 bytes", and holds no "byte that is no letter, digit or `_`"
 pub record GraphName (name : List ℕ) : Type 0 where
@@ -33,13 +31,20 @@ pub record Printable (name verdicts : List ℕ) : Type 0 where
 -- these bytes are a text in a field of this width, left: blanks fill up
 pub record Left (width : ℕ) (text field : List ℕ) : Type 0 where
   pub blanks : ℕ
-  pub filled : field ≡ text ++ replicate blanks (byte " ")
+  pub filled : field ≡ text ++ replicate blanks (code " ")
   pub wide : length field ≡ width
+
+-- these bytes are a number in base ten: one digit, or the digits of another number, not 0, and one digit more
+pub data Decimal : ℕ → List ℕ → Type 0 where
+  one : (n : ℕ) → n < 10 → Decimal n ((code "0" + n) ∷ [])
+  more : (tens last : ℕ) (front : List ℕ) → Decimal tens front → 1 ≤ tens → last < 10 → Decimal (10 * tens + last) (front ++ ((code "0" + last) ∷ []))
 
 -- a number, right
 pub record Right (width n : ℕ) (field : List ℕ) : Type 0 where
   pub blanks : ℕ
-  pub filled : field ≡ replicate blanks (byte " ") ++ digits n
+  pub digits : List ℕ
+  pub decimal : Decimal n digits
+  pub filled : field ≡ replicate blanks (code " ") ++ digits
   pub wide : length field ≡ width
 
 -- THE STATEMENT OVER WIDTH AND DIGITS, from which all widths come: a number of at most so many digits has its field,
@@ -66,7 +71,7 @@ columns page line from count = take count (drop (81 * line + from) page)
 
 -- blanks up to the end of an 80-byte line, and its LF
 abbrev pub restBlank : ℕ → List ℕ
-restBlank from = replicate (80 - from) (byte " ") ++ (byte "\n" ∷ [])
+restBlank from = replicate (80 - from) (code " ") ++ (code "\n" ∷ [])
 
 -- the last line, at this place of a page with so many cycles and so many of them rejected
 pub record LastLine (cycles rejected : ℕ) (page : List ℕ) (line : ℕ) : Type 0 where
@@ -76,7 +81,7 @@ pub record LastLine (cycles rejected : ℕ) (page : List ℕ) (line : ℕ) : Typ
   pub division : 0 < cycles → Division cycles rejected whole remainder
   pub whole-field : 0 < cycles → Right 7 whole (columns page line 10 7)
   pub remainder-field : 0 < cycles → Right 10 remainder (columns page line 17 10)
-  pub no-cycle : cycles ≡ 0 → columns page line 10 17 ≡ replicate 17 (byte " ")
+  pub no-cycle : cycles ≡ 0 → columns page line 10 17 ≡ replicate 17 (code " ")
   pub rest : columns page line 27 54 ≡ restBlank 27
 
 pub record InColumns (name verdicts rejected page : List ℕ) : Type 0 where
@@ -86,13 +91,13 @@ pub record InColumns (name verdicts rejected page : List ℕ) : Type 0 where
   -- ten a line
   pub cells : (j : ℕ) → j < length rejected → Right 8 (getD rejected j 0) (columns page (1 + j / 10) (8 * (j % 10)) 8)
   pub no-cells : (j : ℕ) → length rejected ≤ j → j < 10 * ((length rejected + 9) / 10)
-      → columns page (1 + j / 10) (8 * (j % 10)) 8 ≡ replicate 8 (byte " ")
-  pub line-ends : (i : ℕ) → i < (length rejected + 9) / 10 → columns page (1 + i) 80 1 ≡ byte "\n" ∷ []
+      → columns page (1 + j / 10) (8 * (j % 10)) 8 ≡ replicate 8 (code " ")
+  pub line-ends : (i : ℕ) → i < (length rejected + 9) / 10 → columns page (1 + i) 80 1 ≡ code "\n" ∷ []
   pub last-line : LastLine (length verdicts) (length rejected) page (1 + (length rejected + 9) / 10)
   pub lines : length page ≡ 81 * (2 + (length rejected + 9) / 10)
 
 -- ---- "equal pages come only from equal graph names and verdict bytes": no other have the page of these
 abbrev pub Tells : List ℕ → List ℕ → List ℕ → Type 0
 Tells name verdicts page =
-    (name′ verdicts′ : List ℕ) → length verdicts′ ≤ 524288 → Printable name′ verdicts′ → page ≡ sessionPage name′ verdicts′
+    (name′ verdicts′ rejected′ : List ℕ) → Printable name′ verdicts′ → Rejected verdicts′ rejected′ → InColumns name′ verdicts′ rejected′ page
     → (name′ ≡ name) × (verdicts′ ≡ verdicts)

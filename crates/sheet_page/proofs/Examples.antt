@@ -81,6 +81,8 @@ rows =
     ∷ row "G\nV\ta\nT\n1\n11\n" ("refused\t15\t2\n" ∷ [])
     -- a name alone: no vertex
     ∷ row "G\n" ("refused\t10\t0\n" ∷ [])
+    -- a line `T` after the name: an empty graph, not one with a line `T`
+    ∷ row "G\nT\n1\n" ("refused\t10\t0\n" ∷ [])
     ∷ []
 
 -- each page, by the program and as it is due

@@ -5,5 +5,6 @@ mod JudgedLaws
 mod SheetLaws
 mod LengthLaws
 mod MeanLaws
+mod CaseLaws
 pub mod ProgramLaws
 mod Examples

@@ -3,10 +3,11 @@ use mathlib.Core.Path.{_≡_, refl, ap, subst, _∙_}
 use mathlib.Core.Bool.{Bool, true, false, cond}
 use mathlib.Core.List.{List, [], _++_, append-assoc}
 use Prim.Native.Nat.{ℕ, zero, suc, _+_, _≤_}
+use native.Mathlib.Decide.{decLe}
 use native.Mathlib.Omega.{arith}
-use borrow.Author.Tests.{le-leb}
+use borrow.Author.Tests.{le-leb, lt-leb}
 use lib.Dec.{eqb, leb}
-use lib.ListN.{length, getD}
+use lib.ListN.{length, getD, drop}
 use Rattle.text.specs.Quoted.{bytes}
 use Rattle.text.specs.declared.Refusal.{Refusal}
 use Rattle.text.specs.Numbers.{digits, digitsOf}
@@ -19,22 +20,29 @@ use Rattle.builder.specs.Build as build
 use Rattle.builder.specs.Build.{variablesOf}
 use Rattle.builder.specs.declared.Cause.the-variants.{TooManyVariables}
 use Rattle.trace.specs.Traces.{faultOf, cyclesOf}
+use Rattle.trace.specs.Claims.{Cycles, linesOf}
+use Rattle.trace.proofs.LineLaws.{trace-means}
 use Rattle.calls.specs.Refusals as simulator
 use Rattle.calls.specs.declared.refusal.Cause.the-variants.{WrongLine}
 use Rattle.demand.proofs.Held.{verdicts-length}
 use Rattle.judge.specs.Judge.{inputsOf}
 use Rattle.judge.proofs.EndLaws.{cycles-most}
 use Rattle.page_text.specs.Parts.{graphPart, tracePart}
+use Rattle.page_text.specs.Claims.{Parts}
+use Rattle.page_text.proofs.ClaimLaws.{parts-are, parts-unique}
 use Rattle.page_text.specs.Lines.{field, refusedLine, rejectedLine, sumLine, cycleLine, report}
+use Rattle.page.specs.declared.Cause.the-variants.{ShortBuffer}
 use Rattle.page.specs.declared.Paged.{Paged}
-use Rattle.page.specs.Pages.{graphPage, judgement, tracePage, monitorText, pageEnd, pageOf}
+use Rattle.page.specs.declared.Paged.the-variants as paged
+use Rattle.page.specs.Pages.{graphPage, judgement, tracePage, monitorText, refusalOf, PageEnd, pageEnd, pageOf}
 use Rattle.page.proofs.LengthLaws.{trace-any}
 use Rattle.session_text.specs.Pages.{rejectedOf, sessionPage}
 use Rattle.session_text.proofs.RejectedLaws.{rejected-are}
 use Rattle.session_text.proofs.PageLaws.{in-columns}
 use Rattle.sheet_page.specs.declared.InputFault.the-variants.{TooLong, NoGraphName}
 use Rattle.sheet_page.specs.Sheets.{inputRefusal, traceSheet, sheetText}
-use Rattle.sheet_page.specs.Claims.{SheetMeans}
+use Rattle.sheet_page.specs.Claims.{Printed, SheetMeans}
+use Rattle.sheet_page.specs.Claims.Printed.{whole as printed-whole, short as printed-short}
 use Rattle.sheet_page.proofs.NameLaws.{not-named, rest-shorter}
 use Rattle.sheet_page.proofs.LengthLaws.{sheet-fits}
 use Rattle.sheet_page.proofs.SheetLaws.{restSheet, long-sheet, unnamed-sheet, named-sheet}
@@ -104,6 +112,22 @@ rest-judged : (name rest : Bytes) (g : Graph) → graphOf (graphPart rest) ≡ a
 unfolding graphPage traceSheet
 rest-judged name rest g read small right = rw (read, le-leb (variablesOf g) 4095 small, right)
 
+-- by the parts of the monitor's input and the lines of its trace
+module _ (name : Bytes) {rest graph trace : Bytes} (p : Parts rest graph trace) (g : Graph) (read : graphOf graph ≡ accepted g) (small : variablesOf g ≤ 4095)
+    (cycles : List Bytes) (lines : trace ≡ linesOf cycles) (bits : Cycles (1 + length (g .signals)) cycles) where
+  told : (faultOf (inputsOf g) (tracePart rest) ≡ 0) × (cyclesOf (inputsOf g) (tracePart rest) ≡ cycles)
+  unfolding inputsOf
+  told = trace-means (1 + length (g .signals)) (tracePart rest) .lines cycles bits (parts-unique (parts-are rest) p .1 ∙ lines)
+
+  parts-judged : restSheet name rest ≡ sessionPage name (verdicts g [] cycles)
+  parts-judged =
+      rest-judged name rest g (ap graphOf (parts-unique (parts-are rest) p .0) ∙ read) small (told .0)
+      ∙ ap (λ (cs : List Bytes). sessionPage name (verdicts g [] cs)) (told .1)
+
+  few-judged : length rest ≤ 65536 → length (verdicts g [] cycles) ≤ 524288
+  few-judged short =
+      omega (arith, verdicts-length g [] cycles, ap length (told .1), cycles-most g (tracePart rest), trace-any rest short)
+
 module _ (input : Bytes) (Prints : List ℕ → Type 0) (printed : Prints (sheetText input)) where
   prints : {page : List ℕ} → sheetText input ≡ page → Prints page
   prints e = subst Prints e printed
@@ -122,23 +146,35 @@ module _ (input : Bytes) (Prints : List ℕ → Type 0) (printed : Prints (sheet
         too-long = λ h. prints (long-sheet input h ∙ long-line);
         no-name = λ short never. prints (unnamed-sheet input short (not-named input short never) ∙ unnamed-line);
         as-monitor = λ name rest n r e. prints (named-sheet input n ∙ rest-alike r name rest (omega (arith, n .short, rest-shorter n)) e);
-        sheet = λ name rest n g read small right.
-            let cycles = cyclesOf (inputsOf g) (tracePart rest) in
+        sheet = λ name rest n graph trace p g read small cycles lines bits.
             let judged = verdicts g [] cycles in
-            let few : length judged ≤ 524288 = omega (arith, verdicts-length g [] cycles, cycles-most g (tracePart rest), trace-any rest (omega (arith, n .short, rest-shorter n))) in
+            let few = few-judged name p g read small cycles lines bits (omega (arith, n .short, rest-shorter n)) in
             record {
               rejected = rejectedOf judged;
               page = sessionPage name judged;
               are = rejected-are judged;
               in-columns = in-columns name judged (n .named .most) few;
-              printed = prints (named-sheet input n ∙ rest-judged name rest g read small right);
+              printed = prints (named-sheet input n ∙ parts-judged name p g read small cycles lines bits);
             };
       }
+
+-- ---- a page in a lent buffer is printed
+pub page-printed : (text out : List ℕ) {r : Paged} {left : List ℕ} → pageEnd r left ≡ pageOf text out → Printed text out left r
+unfolding pageOf refusalOf
+page-printed text out {r} {left} e = go (decLe (length text) (length out))
+  where
+    go : Dec (length text ≤ length out) → Printed text out left r
+    go (yes l) =
+        let is : pageEnd r left ≡ pageEnd (paged.Bytes (length text)) (text ++ drop (length text) out) = rw (le-leb (length text) (length out) l) at e in
+        printed-whole (ap (λ (p : PageEnd). p .answer) is) (ap (λ (p : PageEnd). p .out) is) l
+    go (no l) =
+        let is : pageEnd r left ≡ pageEnd (paged.Refused ShortBuffer) out = rw (lt-leb (length text) (length out) (omega arith)) at e in
+        printed-short (ap (λ (p : PageEnd). p .answer) is) refl (ap (λ (p : PageEnd). p .out) is) (omega arith)
 
 -- ---- all that the contract says of an answer, which is of the page of the input
 pub page-means : (input out : List ℕ) {r : Paged} {left text : List ℕ} → pageEnd r left ≡ pageOf text out → text ≡ sheetText input
     → (pageEnd r left ≡ pageOf (sheetText input) out)
-    × ((length (sheetText input) ≤ 265518) × (PathsMean × SheetMeans input (λ page. pageEnd r left ≡ pageOf page out)))
+    × ((length (sheetText input) ≤ 265518) × (PathsMean × SheetMeans input (λ page. Printed page out left r)))
 page-means input out {r} {left} e same =
     let is : pageEnd r left ≡ pageOf (sheetText input) out = e ∙ ap (λ (page : List ℕ). pageOf page out) same in
-    (is, (sheet-fits input, (paths-mean, sheet-means input (λ page. pageEnd r left ≡ pageOf page out) is)))
+    (is, (sheet-fits input, (paths-mean, sheet-means input (λ page. Printed page out left r) (page-printed (sheetText input) out is))))

@@ -1,22 +1,41 @@
--- What the contract of sheet_page claims of the page that is printed, without the tests of the definition. Assumes nothing.
+-- What the contract of sheet_page claims of the page that is printed, by the bytes of the input and the page, and by what
+-- the monitor program prints, but not by the definitions that make the page. Assumes nothing.
 use mathlib.Core.Path.{_≡_}
 use mathlib.Core.List.{List, [], _∷_, _++_}
-use Prim.Native.Nat.{ℕ, _<_, _≤_}
-use lib.ListN.{length}
-use Rattle.text.specs.Quoted.{byte, bytes}
+use Prim.Native.Nat.{ℕ, _+_, _<_, _≤_}
+use Prim.Native.Char.{code}
+use Prim.Native.String as string
+use Prim.Native.String.{String}
+use lib.ListN.{length, drop}
 use Rattle.text.specs.declared.Refusal.{Refusal}
-use Rattle.assertion.specs.Graph.{Bytes, Graph}
+use Rattle.assertion.specs.Graph.{Graph}
 use Rattle.assertion.specs.Paths.{verdicts}
 use Rattle.graph.specs.Reading.{accepted, graphOf}
 use Rattle.builder.specs.Build.{variablesOf}
-use Rattle.trace.specs.Traces.{faultOf, cyclesOf}
-use Rattle.judge.specs.Judge.{inputsOf}
-use Rattle.page_text.specs.Parts.{graphPart, tracePart}
+use Rattle.trace.specs.Claims.{Cycles, linesOf}
+use Rattle.page_text.specs.Claims.{Parts}
 use Rattle.page_text.specs.Lines.{refusedLine}
-use Rattle.page.specs.Pages.{monitorText}
+use Rattle.page.specs.declared.Cause.the-variants.{ShortBuffer}
+use Rattle.page.specs.declared.Paged.{Paged}
+use Rattle.page.specs.declared.Paged.the-variants.{Bytes, Refused}
+use Rattle.page.specs.Pages.{refusalOf, monitorText}
 use Rattle.session_text.specs.Claims.{GraphName, Rejected, InColumns}
 
--- what is printed is a page that has a graph name and verdict bytes in its columns
+-- the bytes of an ASCII text
+abbrev ascii : String → List ℕ
+ascii string.[] = []
+ascii (string._∷_ c s) = code c ∷ ascii s
+
+-- ---- a text is printed
+-- it stands first in the buffer, of which the rest is as it was, and its length is answered; or the buffer is too short
+-- for it, is as it was, and 12 is answered
+pub data Printed (text before after : List ℕ) (answer : Paged) : Type 0 where
+  whole : answer ≡ Bytes (length text) → after ≡ text ++ drop (length text) before → length text ≤ length before → Printed text before after answer
+  short : answer ≡ Refused ShortBuffer → refusalOf ShortBuffer ≡ record { number = 12; line = 0 } → after ≡ before → length before < length text
+      → Printed text before after answer
+
+-- ---- which text
+-- a page that has a graph name and verdict bytes in its columns
 pub record PrintsSheet (name judged : List ℕ) (Prints : List ℕ → Type 0) : Type 0 where
   pub rejected : List ℕ
   pub page : List ℕ
@@ -27,18 +46,20 @@ pub record PrintsSheet (name judged : List ℕ) (Prints : List ℕ → Type 0) :
 -- an input that may be judged: a graph name, LF, and the monitor's input
 pub record Named (input name rest : List ℕ) : Type 0 where
   pub short : length input ≤ 65536
-  pub parts : input ≡ name ++ (byte "\n" ∷ rest)
+  pub parts : input ≡ name ++ (code "\n" ∷ rest)
   pub named : GraphName name
 
 -- WHAT IS PRINTED of an input
-pub record SheetMeans (input : Bytes) (Prints : List ℕ → Type 0) : Type 0 where
+pub record SheetMeans (input : List ℕ) (Prints : List ℕ → Type 0) : Type 0 where
   -- 1, as for any program
-  pub too-long : 65536 < length input → Prints (bytes "refused\t1\t0\n")
+  pub too-long : 65536 < length input → Prints (ascii "refused\t1\t0\n")
   -- 22 where the first line has no LF or is no graph name
-  pub no-name : length input ≤ 65536 → ((name rest : List ℕ) → Named input name rest → ⊥) → Prints (bytes "refused\t22\t0\n")
+  pub no-name : length input ≤ 65536 → ((name rest : List ℕ) → Named input name rest → ⊥) → Prints (ascii "refused\t22\t0\n")
   -- what the monitor program refuses of the rest is refused alike, its lines counted from there
   pub as-monitor : (name rest : List ℕ) → Named input name rest → (r : Refusal) → monitorText rest ≡ refusedLine r → Prints (refusedLine r)
-  -- every other input has its sheet: the cycles that some setting and some rejecting path condemn
-  pub sheet : (name rest : List ℕ) → Named input name rest
-      → (g : Graph) → graphOf (graphPart rest) ≡ accepted g → variablesOf g ≤ 4095 → faultOf (inputsOf g) (tracePart rest) ≡ 0
-      → PrintsSheet name (verdicts g [] (cyclesOf (inputsOf g) (tracePart rest))) Prints
+  -- every other input has its sheet: the rest is a graph text, whose monitor is not too large, and lines that have a bit
+  -- for init and one for each signal; the sheet has the cycles that some setting and some rejecting path condemn
+  pub sheet : (name rest : List ℕ) → Named input name rest → (graph trace : List ℕ) → Parts rest graph trace
+      → (g : Graph) → graphOf graph ≡ accepted g → variablesOf g ≤ 4095
+      → (cycles : List (List ℕ)) → trace ≡ linesOf cycles → Cycles (1 + length (g .signals)) cycles
+      → PrintsSheet name (verdicts g [] cycles) Prints

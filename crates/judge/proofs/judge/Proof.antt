@@ -2,8 +2,8 @@
 use borrow.Author.Needs.{needs}
 use native.Mathlib.Omega.{arith}
 use denote.Ref.{now}
-use Rattle.assertion.proofs.PathLaws.{paths-mean}
 use Rattle.judge.proofs.JudgedLaws.{refused-judged, made-judged}
+use Rattle.judge.proofs.ClaimLaws.{ends}
 use Rattle.judge.proofs.judge.Statement.{statement}
 use Rattle.judge.proofs.judge.Tie as tie
 
@@ -34,13 +34,14 @@ returns c =
     let b = e .before .before .before .before .before .before in
     let s = b .before .before .before .before .before in
     let judged = made-judged (now (s .args .graph)) (now (s .args .trace)) (now (s .args .verdicts)) (b .build .ensures .1) (b .build .ensures .0) (omega arith) (e .before .before .before .enum-told .given .1) in
-    (rw judged at (e .judged-run .ensures), paths-mean)
+    ends (now (s .args .graph)) (now (s .args .trace)) (now (s .args .verdicts)) (rw judged at (e .judged-run .ensures))
 
 returns-2 : tie.Need-returns-2
 returns-2 c =
     let b = c .before .before .before .before in
     let s = b .before .before .before .before .before in
-    (refused-judged (now (s .args .graph)) (now (s .args .trace)) (now (s .args .verdicts)) (b .build .ensures .1) (b .build .ensures .0) (omega arith) (c .before .built .given .1), paths-mean)
+    ends (now (s .args .graph)) (now (s .args .trace)) (now (s .args .verdicts))
+    (refused-judged (now (s .args .graph)) (now (s .args .trace)) (now (s .args .verdicts)) (b .build .ensures .1) (b .build .ensures .0) (omega arith) (c .before .built .given .1))
 
 pub judge-spec : {M : Type 1} → statement M
 judge-spec =

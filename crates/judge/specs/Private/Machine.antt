@@ -6,7 +6,7 @@ use Rattle.simulator.specs.declared.outcome.RunOutcome.{RunOutcome}
 use Rattle.simulator.specs.declared.outcome.RunOutcome.the-variants as run
 use Rattle.calls.specs.declared.tally.Tally.{Tally}
 use Rattle.calls.specs.Tallies.{cleared}
-use Rattle.simulator.specs.Start.{StartEnd, startOf}
+use Rattle.simulator.specs.Start.{startOf}
 use Rattle.simulator.specs.Run.{RunEnd, runOf}
 use Rattle.judge.specs.declared.Cause.the-variants.{Trace}
 use Rattle.judge.specs.declared.Judged.{Judged}

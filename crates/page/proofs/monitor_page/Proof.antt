@@ -37,13 +37,13 @@ slice-aggregate-judged-page : tie.Need-slice-aggregate-judged-page
 slice-aggregate-judged-page c =
     let g = c .before .before .before in
     let s = now (g .before .before .before .before .args .input) in
-    sym (length-take-le _ s (omega (arith, graph-within s, g .graph-length .ensures)))
+    sym (length-take-le _ s (omega (arith, graph-within s, g .graph-length .ensures .0)))
 
 sub-judged-page : tie.Need-sub-judged-page
 sub-judged-page c =
     let j = c .before .before .before in
     let s = now (j .before .before .before .before .before .args .input) in
-    trace-at s (j .if2 .at) (j .before .graph-length .ensures) (j .if2 .came) (λ w. (omega arith, omega arith)) (λ w. (omega arith, omega arith)) .within
+    trace-at s (j .if2 .at) (j .before .graph-length .ensures .0) (j .if2 .came) (λ w. (omega arith, omega arith)) (λ w. (omega arith, omega arith)) .within
 
 part-judged-page-start : tie.Need-part-judged-page-start
 part-judged-page-start c = sub-judged-page c
@@ -62,7 +62,7 @@ returns-2 c =
     let e = c .before .before in
     let j = e .before .before .before .before .before in
     let s = now (j .before .before .before .before .before .args .input) in
-    let g = j .before .graph-length .ensures in
+    let g = j .before .graph-length .ensures .0 in
     let t = trace-at s (j .if2 .at) g (j .if2 .came) (λ w. (omega arith, omega arith)) (λ w. (omega arith, omega arith)) in
     (rw (parted-text s (j .if2 .at) (omega arith) g (t .part)) at (e .judged-page .ensures), (monitor-fits s, (paths-mean, judgement-means s)))
 

@@ -21,7 +21,7 @@ returns-2 : tie.Need-returns-2
 returns-2 c =
     let i = c .before .before in
     let a = i .before .before .before .before .args in
-    ends-unnamed (now (a .name)) (now (a .verdicts)) (now (a .page)) (i .if1 .left) (sym (c .before .is-graph-name .ensures) ∙ not-true _ (c .if2 .taken))
+    ends-unnamed (now (a .name)) (now (a .verdicts)) (now (a .page)) (i .if1 .left) (sym (c .before .is-graph-name .ensures .0) ∙ not-true _ (c .if2 .taken))
 
 count-rejected-requires : tie.Need-count-rejected-requires
 count-rejected-requires c κs = search needs
@@ -62,7 +62,7 @@ returns-4 c =
     let g = k .before .before in
     let i = g .before in
     let a = i .before .before .before .before .args in
-    ends-short (now (a .name)) (now (a .verdicts)) (now (a .page)) (i .if1 .left) (sym (g .is-graph-name .ensures) ∙ not-false _ (k .before .if2 .left)) (sym (k .count-rejected .ensures) ∙ c .before .before .count .given .1) (c .if3 .taken)
+    ends-short (now (a .name)) (now (a .verdicts)) (now (a .page)) (i .if1 .left) (sym (g .is-graph-name .ensures .0) ∙ not-false _ (k .before .if2 .left)) (sym (k .count-rejected .ensures) ∙ c .before .before .count .given .1) (c .if3 .taken)
 
 put-page-requires : tie.Need-put-page-requires
 put-page-requires c κs =
@@ -72,7 +72,7 @@ put-page-requires c κs =
     let i = g .before in
     let a = i .before .before .before .before .args in
     let h = sym (k .count-rejected .ensures) ∙ f .before .before .count .given .1 in
-    (may-print (now (a .name)) (now (a .verdicts)) (now (a .page)) (i .if1 .left) (sym (g .is-graph-name .ensures) ∙ not-false _ (k .before .if2 .left)) h, i .if1 .left, counted-bits (now (a .verdicts)) h .all)
+    (may-print (now (a .name)) (now (a .verdicts)) (now (a .page)) (i .if1 .left) (sym (g .is-graph-name .ensures .0) ∙ not-false _ (k .before .if2 .left)) h, i .if1 .left, counted-bits (now (a .verdicts)) h .all)
 
 same-length : tie.Need-same-length
 same-length c = search needs
@@ -87,7 +87,7 @@ returns-5 c =
     let s = i .before .before .before .before in
     let a = s .args in
     let h = sym (k .count-rejected .ensures) ∙ f .before .before .count .given .1 in
-    ends-laid (now (a .name)) (now (a .verdicts)) (now (a .page)) (i .if1 .left) (sym (g .is-graph-name .ensures) ∙ not-false _ (k .before .if2 .left)) h (omega (arith, s .good)) (f .if3 .left) (w .put-page .ensures)
+    ends-laid (now (a .name)) (now (a .verdicts)) (now (a .page)) (i .if1 .left) (sym (g .is-graph-name .ensures .0) ∙ not-false _ (k .before .if2 .left)) h (omega (arith, s .good)) (f .if3 .left) (w .put-page .ensures)
 
 pub lay-out-spec : {M : Type 1} → statement M
 lay-out-spec =

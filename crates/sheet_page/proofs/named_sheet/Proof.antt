@@ -19,13 +19,13 @@ slice-aggregate-judged-sheet : tie.Need-slice-aggregate-judged-sheet
 slice-aggregate-judged-sheet c =
     let g = c .before .before .before in
     let s = now (g .before .before .before .before .args .rest) in
-    sym (length-take-le _ s (omega (arith, graph-within s, g .graph-length .ensures)))
+    sym (length-take-le _ s (omega (arith, graph-within s, g .graph-length .ensures .0)))
 
 sub-judged-sheet : tie.Need-sub-judged-sheet
 sub-judged-sheet c =
     let j = c .before .before .before in
     let s = now (j .before .before .before .before .before .args .rest) in
-    trace-at s (j .if1 .at) (j .before .graph-length .ensures) (j .if1 .came) (λ w. (omega arith, omega arith)) (λ w. (omega arith, omega arith)) .within
+    trace-at s (j .if1 .at) (j .before .graph-length .ensures .0) (j .if1 .came) (λ w. (omega arith, omega arith)) (λ w. (omega arith, omega arith)) .within
 
 part-judged-sheet-start : tie.Need-part-judged-sheet-start
 part-judged-sheet-start c = sub-judged-sheet c
@@ -45,7 +45,7 @@ returns c =
     let j = e .before .before .before .before .before in
     let a = j .before .before .before .before .before .args in
     let s = now (a .rest) in
-    let g = j .before .graph-length .ensures in
+    let g = j .before .graph-length .ensures .0 in
     let t = trace-at s (j .if1 .at) g (j .if1 .came) (λ w. (omega arith, omega arith)) (λ w. (omega arith, omega arith)) in
     rw (parted-sheet (now (a .name)) s (j .if1 .at) g (t .part)) at (e .judged-sheet .ensures)
 

@@ -93,7 +93,7 @@ returns-3 c =
     let a = l .before .before .before .before .before .before .args in
     let s = now (a .input) in
     let f = line-ended s (sym (l .before .before .line-at .ensures) ∙ l .line .given .1) in
-    let none = has-tested s f (n .is-graph-name .ensures) ∙ not-true _ (i .if2 .taken) in
+    let none = has-tested s f (n .is-graph-name .ensures .0) ∙ not-true _ (i .if2 .taken) in
     page-means s (now (a .out)) (rw (e .before .refusal3 .ensures) at (e .refused-page3 .ensures)) (sym (unnamed-sheet s (omega arith) none))
 
 sub-named-sheet : tie.Need-sub-named-sheet
@@ -115,7 +115,7 @@ part-named-sheet-end c = search needs
 named-sheet-requires : tie.Need-named-sheet-requires
 named-sheet-requires c κs =
     let n = c .before .before .before in
-    (sym (n .is-graph-name .ensures) ∙ not-false _ (c .before .before .if2 .left), omega arith)
+    (sym (n .is-graph-name .ensures .0) ∙ not-false _ (c .before .before .if2 .left), omega arith)
 
 same-length-4 : tie.Need-same-length-4
 same-length-4 c = search needs
@@ -129,7 +129,7 @@ returns-4 c =
     let a = l .before .before .before .before .before .before .args in
     let s = now (a .input) in
     let f = line-ended s (sym (l .before .before .line-at .ensures) ∙ l .line .given .1) in
-    let some = has-tested s f (n .is-graph-name .ensures) ∙ not-false _ (i .if2 .left) in
+    let some = has-tested s f (n .is-graph-name .ensures .0) ∙ not-false _ (i .if2 .left) in
     page-means s (now (a .out)) (e .named-sheet .ensures) (taken-sheet s (omega arith) f some)
 
 pub sheet-page-spec : {M : Type 1} → statement M

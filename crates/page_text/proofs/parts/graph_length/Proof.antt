@@ -2,14 +2,21 @@
 use mathlib.Core.Path.{_≡_, sym, _∙_}
 use mathlib.Core.Bool.{true}
 use mathlib.Core.Logic.{⊎-elim}
+use mathlib.Core.List.{List}
 use Prim.Native.Nat.{ℕ, _+_, _-_}
 use native.Mathlib.Omega.{arith}
 use borrow.Author.Needs.{needs}
-use lib.ListN.{length, getD, drop}
+use lib.ListN.{length, getD, take, drop}
 use Rattle.page_text.specs.Parts.{bytesBefore, graphLength}
+use Rattle.page_text.specs.Claims.{Parts}
 use Rattle.page_text.proofs.PartLaws.{mark-here, mark-later, mark-nowhere}
+use Rattle.page_text.proofs.ClaimLaws.{length-parts}
 use Rattle.page_text.proofs.parts.graph_length.Statement.{statement}
 use Rattle.page_text.proofs.parts.graph_length.Tie as tie
+
+-- an answer that is the graph part's length has the parts
+counted : (s : List ℕ) {n : ℕ} → n ≡ graphLength s → (n ≡ graphLength s) × Parts s (take n s) (drop (n + 2) s)
+counted s e = (e, length-parts s e)
 
 abbrev Inv-loop : tie.InvT-loop
 Inv-loop input starts₀ i₀ starts i = i + bytesBefore starts (drop i input) ≡ graphLength input
@@ -33,7 +40,8 @@ returns : tie.Need-returns Inv-loop μ-loop
 returns c =
     let e = c .before in
     let l = e .before .before .before .before .before in
-    sym (mark-here (l .loop .starts) (l .before .before .args .input .now) (l .loop .i) (omega arith) (e .before .before .if1 .taken) (omega arith) (omega arith)) ∙ l .loop .inv
+    let s = l .before .before .args .input .now in
+    counted s (sym (mark-here (l .loop .starts) s (l .loop .i) (omega arith) (e .before .before .if1 .taken) (omega arith) (omega arith)) ∙ l .loop .inv)
 
 add-i : tie.Need-add-i Inv-loop μ-loop
 add-i c = search needs
@@ -52,7 +60,8 @@ loop-again c =
 returns-2 : tie.Need-returns-2 Inv-loop μ-loop
 returns-2 c =
     let l = c .before in
-    sym (mark-nowhere (l .loop .starts) (l .before .before .args .input .now) (l .loop .i) (omega arith)) ∙ l .loop .inv
+    let s = l .before .before .args .input .now in
+    counted s (sym (mark-nowhere (l .loop .starts) s (l .loop .i) (omega arith)) ∙ l .loop .inv)
 
 pub graph-length-spec : {M : Type 1} → statement M
 graph-length-spec =

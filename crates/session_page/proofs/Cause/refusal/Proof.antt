@@ -1,5 +1,4 @@
 -- `session_page::Cause::refusal` meets its contract. Assumes nothing.
-use mathlib.Core.Path.{sym, ap}
 use borrow.Author.Needs.{needs}
 use Rattle.session_page.specs.LayOut.{refusalOf}
 use Rattle.session_page.proofs.Cause.refusal.Statement.{statement}

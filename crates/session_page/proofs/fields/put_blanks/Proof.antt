@@ -1,7 +1,6 @@
 -- `session_page::fields::put_blanks` meets its contract: after i turns i blanks are written. Assumes nothing.
-use Prim.Native.Nat.{ℕ, _≤_, _-_, _+_}
+use Prim.Native.Nat.{ℕ, _≤_, _-_}
 use native.Mathlib.Nat.{le-antisymm}
-use native.Mathlib.Numerals.{add-one}
 use borrow.Author.Needs.{needs}
 use lib.ListN.{replicate-append-replicate}
 use Rattle.text.specs.Writer.{Wrote}

@@ -8,7 +8,7 @@ use borrow.Author.Needs.{needs}
 use Rattle.trace.specs.Verdicts.{allBits}
 use Rattle.trace.proofs.VerdictLaws.{bits-here, bits-next}
 use Rattle.session_text.specs.Pages.{rejectedOf}
-use Rattle.session_text.proofs.RejectedLaws.{rejected-none, rejected-most}
+use Rattle.session_text.proofs.RejectedLaws.{rejected-none}
 use Rattle.session_page.proofs.PrintableLaws.{count-none, count-all, count-next}
 use Rattle.session_page.proofs.printable.count_rejected.Statement.{statement}
 use Rattle.session_page.proofs.printable.count_rejected.Tie as tie

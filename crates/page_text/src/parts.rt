@@ -1,7 +1,7 @@
 // The parts of the monitor program's input.
 ghost use mathlib.Core.Path.{_≡_};
-ghost use Prim.Native.Nat.{_+_};
-ghost use lib.ListN.{take, drop};
+ghost use Prim.Native.Nat.{_+_, _≤_};
+ghost use lib.ListN.{length, take, drop};
 ghost use Rattle.page_text.specs.Parts.{graphLength};
 ghost use Rattle.page_text.specs.Claims.{Parts};
 
@@ -9,6 +9,7 @@ ghost use Rattle.page_text.specs.Claims.{Parts};
 pub fn graph_length(input: &[u8]) -> usize
     ensures { λ r. ⌜ r ≡ graphLength (now (input .entry)) ⌝ }
     ensures parts { λ r. ⌜ Parts (now (input .entry)) (take r (now (input .entry))) (drop (r + 2) (now (input .entry))) ⌝ }
+    ensures within { λ r. ⌜ r ≤ length (now (input .entry)) ⌝ }
 {
     let mut starts = true;
     let mut i = 0;

@@ -36,7 +36,7 @@ right-length width n h =
     omega (arith, length-append (blanks (width - length (digits n))) (digits n), length-replicate {A = ℕ} (width - length (digits n)) 32)
 
 -- digits are a number in base ten, and no other bytes are
-decimal : (n : ℕ) → Decimal n (digits n)
+pub decimal : (n : ℕ) → Decimal n (digits n)
 decimal =
     digits-ind (λ n. Decimal n (digits n)) (λ n h. let e : 48 + n % 10 ≡ 48 + n = omega arith in rw (digits-small n h, e) (one n h))
     (λ n h ih.

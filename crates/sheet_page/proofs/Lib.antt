@@ -5,6 +5,5 @@ mod JudgedLaws
 mod SheetLaws
 mod LengthLaws
 mod MeanLaws
-mod CaseLaws
 pub mod ProgramLaws
 mod Examples

@@ -1,11 +1,11 @@
 -- What is printed of an input is what the contract claims. Assumes nothing.
-use mathlib.Core.Path.{_≡_, refl, ap, subst, _∙_}
-use mathlib.Core.Bool.{Bool, true, false, cond}
+use mathlib.Core.Path.{_≡_, refl, sym, ap, subst, _∙_}
+use mathlib.Core.Bool.{Bool, true, false, cond, true≢false}
 use mathlib.Core.List.{List, [], _++_, append-assoc}
-use Prim.Native.Nat.{ℕ, zero, suc, _+_, _≤_}
+use Prim.Native.Nat.{ℕ, zero, suc, _+_, _<_, _≤_}
 use native.Mathlib.Decide.{decLe}
 use native.Mathlib.Omega.{arith}
-use borrow.Author.Tests.{le-leb, lt-leb}
+use borrow.Author.Tests.{le-leb, lt-leb, ne-eqb}
 use lib.Dec.{eqb, leb}
 use lib.ListN.{length, getD, drop}
 use Rattle.text.specs.Quoted.{bytes}
@@ -15,12 +15,13 @@ use Rattle.text.specs.Writer.{joined}
 use Rattle.assertion.specs.Graph.{Bytes, Graph}
 use Rattle.assertion.specs.Paths.{verdicts, PathsMean}
 use Rattle.assertion.proofs.PathLaws.{paths-mean}
+use Rattle.graph.specs.declared.Cause.{Cause}
+use Rattle.graph.specs.Reading as reading
 use Rattle.graph.specs.Reading.{Outcome, refused, accepted, graphOf}
 use Rattle.builder.specs.Build as build
 use Rattle.builder.specs.Build.{variablesOf}
 use Rattle.builder.specs.declared.Cause.the-variants.{TooManyVariables}
 use Rattle.trace.specs.Traces.{faultOf, cyclesOf}
-use Rattle.trace.specs.Claims.{Cycles, linesOf}
 use Rattle.trace.proofs.LineLaws.{trace-means}
 use Rattle.calls.specs.Refusals as simulator
 use Rattle.calls.specs.declared.refusal.Cause.the-variants.{WrongLine}
@@ -28,8 +29,7 @@ use Rattle.demand.proofs.Held.{verdicts-length}
 use Rattle.judge.specs.Judge.{inputsOf}
 use Rattle.judge.proofs.EndLaws.{cycles-most}
 use Rattle.page_text.specs.Parts.{graphPart, tracePart}
-use Rattle.page_text.specs.Claims.{Parts}
-use Rattle.page_text.proofs.ClaimLaws.{parts-are, parts-unique}
+use Rattle.page_text.proofs.ClaimLaws.{parts-are}
 use Rattle.page_text.specs.Lines.{field, refusedLine, rejectedLine, sumLine, cycleLine, report}
 use Rattle.page.specs.declared.Cause.the-variants.{ShortBuffer}
 use Rattle.page.specs.declared.Paged.{Paged}
@@ -37,13 +37,15 @@ use Rattle.page.specs.declared.Paged.the-variants as paged
 use Rattle.page.specs.Pages.{graphPage, judgement, tracePage, monitorText, refusalOf, PageEnd, pageEnd, pageOf}
 use Rattle.page.proofs.LengthLaws.{trace-any}
 use Rattle.session_text.specs.Pages.{rejectedOf, sessionPage}
+use Rattle.session_text.proofs.FieldLaws.{decimal}
 use Rattle.session_text.proofs.RejectedLaws.{rejected-are}
 use Rattle.session_text.proofs.PageLaws.{in-columns}
 use Rattle.sheet_page.specs.declared.InputFault.the-variants.{TooLong, NoGraphName}
-use Rattle.sheet_page.specs.Sheets.{inputRefusal, traceSheet, sheetText}
-use Rattle.sheet_page.specs.Claims.{Printed, SheetMeans}
+use Rattle.sheet_page.specs.Sheets.{inputRefusal, hasName, traceSheet, sheetText}
+use Rattle.sheet_page.specs.Claims.{Printed, Named, RefusedText, PrintsRefusal, SheetMeans, AsMonitor}
+use Rattle.sheet_page.specs.Claims.SheetMeans.{too-long, no-name, no-graph, too-large, wrong-line, sheet}
 use Rattle.sheet_page.specs.Claims.Printed.{whole as printed-whole, short as printed-short}
-use Rattle.sheet_page.proofs.NameLaws.{not-named, rest-shorter}
+use Rattle.sheet_page.proofs.NameLaws.{not-named, has-name, named-so, rest-shorter}
 use Rattle.sheet_page.proofs.LengthLaws.{sheet-fits}
 use Rattle.sheet_page.proofs.SheetLaws.{restSheet, long-sheet, unnamed-sheet, named-sheet}
 
@@ -112,51 +114,98 @@ rest-judged : (name rest : Bytes) (g : Graph) → graphOf (graphPart rest) ≡ a
 unfolding graphPage traceSheet
 rest-judged name rest g read small right = rw (read, le-leb (variablesOf g) 4095 small, right)
 
--- by the parts of the monitor's input and the lines of its trace
-module _ (name : Bytes) {rest graph trace : Bytes} (p : Parts rest graph trace) (g : Graph) (read : graphOf graph ≡ accepted g) (small : variablesOf g ≤ 4095)
-    (cycles : List Bytes) (lines : trace ≡ linesOf cycles) (bits : Cycles (1 + length (g .signals)) cycles) where
-  told : (faultOf (inputsOf g) (tracePart rest) ≡ 0) × (cyclesOf (inputsOf g) (tracePart rest) ≡ cycles)
-  unfolding inputsOf
-  told = trace-means (1 + length (g .signals)) (tracePart rest) .lines cycles bits (parts-unique (parts-are rest) p .1 ∙ lines)
+few-judged : (g : Graph) (trace : Bytes) → length trace ≤ 65536 → length (verdicts g [] (cyclesOf (1 + length (g .signals)) trace)) ≤ 524288
+unfolding inputsOf
+few-judged g trace short = omega (arith, verdicts-length g [] (cyclesOf (1 + length (g .signals)) trace), cycles-most g trace)
 
-  parts-judged : restSheet name rest ≡ sessionPage name (verdicts g [] cycles)
-  parts-judged =
-      rest-judged name rest g (ap graphOf (parts-unique (parts-are rest) p .0) ∙ read) small (told .0)
-      ∙ ap (λ (cs : List Bytes). sessionPage name (verdicts g [] cs)) (told .1)
+-- ---- the line of a refusal
+refused-text : (r : Refusal) → RefusedText (r .number) (r .line) (refusedLine r)
+unfolding refusedLine field
+refused-text r =
+    record { first = digits (r .number); second = digits (r .line); number-told = decimal (r .number); line-told = decimal (r .line); bytes = refl }
 
-  few-judged : length rest ≤ 65536 → length (verdicts g [] cycles) ≤ 524288
-  few-judged short =
-      omega (arith, verdicts-length g [] cycles, ap length (told .1), cycles-most g (tracePart rest), trace-any rest short)
+long-line : refusedLine (inputRefusal TooLong) ≡ bytes "refused\t1\t0\n"
+unfolding inputRefusal refusedLine field digits digitsOf
+long-line = refl
+
+unnamed-line : refusedLine (inputRefusal NoGraphName) ≡ bytes "refused\t22\t0\n"
+unfolding inputRefusal refusedLine field digits digitsOf
+unnamed-line = refl
+
+large-line : refusedLine (build.refusalOf TooManyVariables) ≡ bytes "refused\t11\t0\n"
+unfolding build.refusalOf refusedLine field digits digitsOf
+large-line = refl
+
+-- ---- what is refused of the rest
+module _ (name rest : Bytes) where
+  rest-refused : (c : Cause) → graphOf (graphPart rest) ≡ refused c → restSheet name rest ≡ refusedLine (reading.refusalOf c)
+  unfolding graphPage build.refusalOf
+  rest-refused c e = rw e
+
+  module _ (g : Graph) (read : graphOf (graphPart rest) ≡ accepted g) where
+    rest-large : 4095 < variablesOf g → restSheet name rest ≡ refusedLine (build.refusalOf TooManyVariables)
+    unfolding graphPage
+    rest-large h = rw (read, lt-leb (variablesOf g) 4095 h)
+
+    rest-wrong : variablesOf g ≤ 4095 → (k : ℕ) → faultOf (inputsOf g) (tracePart rest) ≡ suc k → restSheet name rest ≡ refusedLine (record { number = 15; line = suc k })
+    unfolding graphPage traceSheet simulator.refusalOf
+    rest-wrong h k e = rw (read, le-leb (variablesOf g) 4095 h, e, ne-eqb (suc k) 0 (λ z. omega arith))
 
 module _ (input : Bytes) (Prints : List ℕ → Type 0) (printed : Prints (sheetText input)) where
   prints : {page : List ℕ} → sheetText input ≡ page → Prints page
   prints e = subst Prints e printed
 
-  long-line : refusedLine (inputRefusal TooLong) ≡ bytes "refused\t1\t0\n"
-  unfolding inputRefusal refusedLine field digits digitsOf
-  long-line = refl
+  -- ---- a name and the monitor's input
+  module _ {name rest : Bytes} (n : Named input name rest) where
+    refusal : (r : Refusal) → restSheet name rest ≡ refusedLine r → PrintsRefusal (r .number) (r .line) Prints
+    refusal r e = record { text = refusedLine r; told = refused-text r; printed = prints (named-sheet input n ∙ e) }
 
-  unnamed-line : refusedLine (inputRefusal NoGraphName) ≡ bytes "refused\t22\t0\n"
-  unfolding inputRefusal refusedLine field digits digitsOf
-  unnamed-line = refl
+    of-trace : (g : Graph) → graphOf (graphPart rest) ≡ accepted g → variablesOf g ≤ 4095 → (k : ℕ) → faultOf (inputsOf g) (tracePart rest) ≡ k → SheetMeans input Prints
+    unfolding inputsOf
+    of-trace g read small zero e =
+        let lines = trace-means (1 + length (g .signals)) (tracePart rest) .whole e in
+        let cycles = cyclesOf (1 + length (g .signals)) (tracePart rest) in
+        let judged = verdicts g [] cycles in
+        let few = few-judged g (tracePart rest) (trace-any rest (omega (arith, n .short, rest-shorter n))) in
+        sheet name rest (graphPart rest) (tracePart rest) g cycles
+        (record {
+          rejected = rejectedOf judged;
+          page = sessionPage name judged;
+          are = rejected-are judged;
+          in-columns = in-columns name judged (n .named .most) few;
+          printed = prints (named-sheet input n ∙ rest-judged name rest g read small e);
+        })
+        n (parts-are rest) read small (lines .0) (lines .1)
+    of-trace g read small (suc k) e =
+        wrong-line name rest (graphPart rest) (tracePart rest) g k (refusal (record { number = 15; line = suc k }) (rest-wrong name rest g read small k e)) n (parts-are rest)
+        read small (trace-means (1 + length (g .signals)) (tracePart rest) .first k e)
 
-  pub sheet-means : SheetMeans input Prints
-  sheet-means =
-      record {
-        too-long = λ h. prints (long-sheet input h ∙ long-line);
-        no-name = λ short never. prints (unnamed-sheet input short (not-named input short never) ∙ unnamed-line);
-        as-monitor = λ name rest n r e. prints (named-sheet input n ∙ rest-alike r name rest (omega (arith, n .short, rest-shorter n)) e);
-        sheet = λ name rest n graph trace p g read small cycles lines bits.
-            let judged = verdicts g [] cycles in
-            let few = few-judged name p g read small cycles lines bits (omega (arith, n .short, rest-shorter n)) in
-            record {
-              rejected = rejectedOf judged;
-              page = sessionPage name judged;
-              are = rejected-are judged;
-              in-columns = in-columns name judged (n .named .most) few;
-              printed = prints (named-sheet input n ∙ parts-judged name p g read small cycles lines bits);
-            };
-      }
+    of-size : (g : Graph) → graphOf (graphPart rest) ≡ accepted g → Dec (variablesOf g ≤ 4095) → SheetMeans input Prints
+    of-size g read (yes small) = of-trace g read small (faultOf (inputsOf g) (tracePart rest)) refl
+    of-size g read (no large) =
+        too-large name rest (graphPart rest) (tracePart rest) g (prints (named-sheet input n ∙ rest-large name rest g read (omega (arith, large)) ∙ large-line)) n (parts-are rest) read
+        (omega (arith, large))
+
+    of-graph : (o : Outcome) → graphOf (graphPart rest) ≡ o → SheetMeans input Prints
+    of-graph (refused c) e = no-graph name rest (graphPart rest) (tracePart rest) c (refusal (reading.refusalOf c) (rest-refused name rest c e)) n (parts-are rest) e
+    of-graph (accepted g) e = of-size g e (decLe (variablesOf g) 4095)
+
+  -- ---- every input
+  of-name : length input ≤ 65536 → (b : Bool) → hasName input ≡ b → SheetMeans input Prints
+  of-name fits true e = of-graph (named-so input fits e) (graphOf (graphPart _)) refl
+  of-name fits false e =
+      let never : (name rest : List ℕ) → Named input name rest → ⊥ = λ name rest n. true≢false (sym (has-name n) ∙ e) in
+      no-name (prints (unnamed-sheet input fits (not-named input fits never) ∙ unnamed-line)) fits never
+
+  sheet-means : SheetMeans input Prints
+  sheet-means = go (decLe (length input) 65536)
+    where
+      go : Dec (length input ≤ 65536) → SheetMeans input Prints
+      go (yes fits) = of-name fits (hasName input) refl
+      go (no long) = too-long (prints (long-sheet input (omega (arith, long)) ∙ long-line)) (omega (arith, long))
+
+  as-monitor : AsMonitor input Prints
+  as-monitor name rest n r e = prints (named-sheet input n ∙ rest-alike r name rest (omega (arith, n .short, rest-shorter n)) e)
 
 -- ---- a page in a lent buffer is printed
 pub page-printed : (text out : List ℕ) {r : Paged} {left : List ℕ} → pageEnd r left ≡ pageOf text out → Printed text out left r
@@ -174,7 +223,8 @@ page-printed text out {r} {left} e = go (decLe (length text) (length out))
 -- ---- all that the contract says of an answer, which is of the page of the input
 pub page-means : (input out : List ℕ) {r : Paged} {left text : List ℕ} → pageEnd r left ≡ pageOf text out → text ≡ sheetText input
     → (pageEnd r left ≡ pageOf (sheetText input) out)
-    × ((length (sheetText input) ≤ 265518) × (PathsMean × SheetMeans input (λ page. Printed page out left r)))
+    × ((length (sheetText input) ≤ 265518) × (PathsMean × (SheetMeans input (λ page. Printed page out left r) × AsMonitor input (λ page. Printed page out left r))))
 page-means input out {r} {left} e same =
     let is : pageEnd r left ≡ pageOf (sheetText input) out = e ∙ ap (λ (page : List ℕ). pageOf page out) same in
-    (is, (sheet-fits input, (paths-mean, sheet-means input (λ page. Printed page out left r) (page-printed (sheetText input) out is))))
+    let printed = page-printed (sheetText input) out is in
+    (is, (sheet-fits input, (paths-mean, (sheet-means input (λ page. Printed page out left r) printed, as-monitor input (λ page. Printed page out left r) printed))))

@@ -2,7 +2,7 @@
 -- the monitor program prints, but not by the definitions that make the page. Assumes nothing.
 use mathlib.Core.Path.{_≡_}
 use mathlib.Core.List.{List, [], _∷_, _++_}
-use Prim.Native.Nat.{ℕ, _+_, _<_, _≤_}
+use Prim.Native.Nat.{ℕ, suc, _+_, _<_, _≤_}
 use Prim.Native.Char.{code}
 use Prim.Native.String as string
 use Prim.Native.String.{String}
@@ -10,16 +10,18 @@ use lib.ListN.{length, drop}
 use Rattle.text.specs.declared.Refusal.{Refusal}
 use Rattle.assertion.specs.Graph.{Graph}
 use Rattle.assertion.specs.Paths.{verdicts}
-use Rattle.graph.specs.Reading.{accepted, graphOf}
+use Rattle.graph.specs.declared.Cause.{Cause}
+use Rattle.graph.specs.Reading as reading
+use Rattle.graph.specs.Reading.{refused, accepted, graphOf}
 use Rattle.builder.specs.Build.{variablesOf}
-use Rattle.trace.specs.Claims.{Cycles, linesOf}
+use Rattle.trace.specs.Claims.{Cycles, linesOf, FirstWrong}
 use Rattle.page_text.specs.Claims.{Parts}
 use Rattle.page_text.specs.Lines.{refusedLine}
 use Rattle.page.specs.declared.Cause.the-variants.{ShortBuffer}
 use Rattle.page.specs.declared.Paged.{Paged}
 use Rattle.page.specs.declared.Paged.the-variants.{Bytes, Refused}
 use Rattle.page.specs.Pages.{refusalOf, monitorText}
-use Rattle.session_text.specs.Claims.{GraphName, Rejected, InColumns}
+use Rattle.session_text.specs.Claims.{GraphName, Decimal, Rejected, InColumns}
 
 -- the bytes of an ASCII text
 abbrev ascii : String → List ℕ
@@ -49,17 +51,44 @@ pub record Named (input name rest : List ℕ) : Type 0 where
   pub parts : input ≡ name ++ (code "\n" ∷ rest)
   pub named : GraphName name
 
--- WHAT IS PRINTED of an input
-pub record SheetMeans (input : List ℕ) (Prints : List ℕ → Type 0) : Type 0 where
+-- the line of a refusal: `refused`, a number and a line in base ten, parted by tabs, and LF
+pub record RefusedText (number line : ℕ) (text : List ℕ) : Type 0 where
+  pub first : List ℕ
+  pub second : List ℕ
+  pub number-told : Decimal number first
+  pub line-told : Decimal line second
+  pub bytes : text ≡ ascii "refused\t" ++ (first ++ (ascii "\t" ++ (second ++ ascii "\n")))
+
+pub record PrintsRefusal (number line : ℕ) (Prints : List ℕ → Type 0) : Type 0 where
+  pub text : List ℕ
+  pub told : RefusedText number line text
+  pub printed : Prints text
+
+-- WHAT IS PRINTED of an input: one of these, whatever the input is
+pub data SheetMeans (input : List ℕ) (Prints : List ℕ → Type 0) : Type 0 where
   -- 1, as for any program
-  pub too-long : 65536 < length input → Prints (ascii "refused\t1\t0\n")
+  too-long : Prints (ascii "refused\t1\t0\n") → 65536 < length input → SheetMeans input Prints
   -- 22 where the first line has no LF or is no graph name
-  pub no-name : length input ≤ 65536 → ((name rest : List ℕ) → Named input name rest → ⊥) → Prints (ascii "refused\t22\t0\n")
-  -- what the monitor program refuses of the rest is refused alike, its lines counted from there
-  pub as-monitor : (name rest : List ℕ) → Named input name rest → (r : Refusal) → monitorText rest ≡ refusedLine r → Prints (refusedLine r)
-  -- every other input has its sheet: the rest is a graph text, whose monitor is not too large, and lines that have a bit
-  -- for init and one for each signal; the sheet has the cycles that some setting and some rejecting path condemn
-  pub sheet : (name rest : List ℕ) → Named input name rest → (graph trace : List ℕ) → Parts rest graph trace
-      → (g : Graph) → graphOf graph ≡ accepted g → variablesOf g ≤ 4095
-      → (cycles : List (List ℕ)) → trace ≡ linesOf cycles → Cycles (1 + length (g .signals)) cycles
-      → PrintsSheet name (verdicts g [] cycles) Prints
+  no-name : Prints (ascii "refused\t22\t0\n") → length input ≤ 65536 → ((name rest : List ℕ) → Named input name rest → ⊥) → SheetMeans input Prints
+  -- then as the monitor program refuses the rest: for its graph text,
+  no-graph : (name rest graph trace : List ℕ) (c : Cause) → PrintsRefusal (reading.refusalOf c .number) (reading.refusalOf c .line) Prints
+      → Named input name rest → Parts rest graph trace → graphOf graph ≡ refused c
+      → SheetMeans input Prints
+  -- for the size of its circuit,
+  too-large : (name rest graph trace : List ℕ) (g : Graph) → Prints (ascii "refused\t11\t0\n")
+      → Named input name rest → Parts rest graph trace → graphOf graph ≡ accepted g → 4095 < variablesOf g
+      → SheetMeans input Prints
+  -- for the first wrong line of its trace, counted from 1 after `T`
+  wrong-line : (name rest graph trace : List ℕ) (g : Graph) (k : ℕ) → PrintsRefusal 15 (suc k) Prints
+      → Named input name rest → Parts rest graph trace → graphOf graph ≡ accepted g → variablesOf g ≤ 4095
+      → FirstWrong (1 + length (g .signals)) k trace
+      → SheetMeans input Prints
+  -- every other input has its sheet, of the cycles that some setting and some rejecting path condemn
+  sheet : (name rest graph trace : List ℕ) (g : Graph) (cycles : List (List ℕ)) → PrintsSheet name (verdicts g [] cycles) Prints
+      → Named input name rest → Parts rest graph trace → graphOf graph ≡ accepted g → variablesOf g ≤ 4095
+      → trace ≡ linesOf cycles → Cycles (1 + length (g .signals)) cycles
+      → SheetMeans input Prints
+
+-- what the monitor program refuses of the rest is refused alike, its lines counted from there
+abbrev pub AsMonitor : List ℕ → (List ℕ → Type 0) → Type 0
+AsMonitor input Prints = (name rest : List ℕ) → Named input name rest → (r : Refusal) → monitorText rest ≡ refusedLine r → Prints (refusedLine r)

@@ -22,7 +22,7 @@ ghost use Rattle.session_text.specs.Pages.{sessionPage};
 ghost use Rattle.session_text.specs.Claims.{Printable};
 ghost use Rattle.session_page.specs.LayOut.{isGraphName};
 ghost use Rattle.sheet_page.specs.Sheets.{inputRefusal, traceSheet, sheetText};
-ghost use Rattle.sheet_page.specs.Claims.{Printed, SheetMeans};
+ghost use Rattle.sheet_page.specs.Claims.{Printed, SheetMeans, AsMonitor};
 
 // The longest input of a program.
 const MAX_INPUT: usize = 65536;
@@ -98,6 +98,7 @@ pub fn sheet_page(input: &[u8], out: &mut [u8]) -> Paged
     ensures fits { λ _. ⌜ length (sheetText (now (input .entry))) ≤ 265518 ⌝ }
     ensures paths { λ _. ⌜ PathsMean ⌝ }
     ensures sheet { λ r. ⌜ SheetMeans (now (input .entry)) (λ text. Printed text (now (out .entry)) (now (out .exit)) r) ⌝ }
+    ensures monitor { λ r. ⌜ AsMonitor (now (input .entry)) (λ text. Printed text (now (out .entry)) (now (out .exit)) r) ⌝ }
 {
     if input.len() > MAX_INPUT {
         let fault = InputFault::TooLong;

@@ -3,20 +3,20 @@ use mathlib.Core.Path.{_≡_, sym, _∙_}
 use mathlib.Core.Bool.{true}
 use mathlib.Core.Logic.{⊎-elim}
 use mathlib.Core.List.{List}
-use Prim.Native.Nat.{ℕ, _+_, _-_}
+use Prim.Native.Nat.{ℕ, _+_, _-_, _≤_}
 use native.Mathlib.Omega.{arith}
 use borrow.Author.Needs.{needs}
 use lib.ListN.{length, getD, take, drop}
 use Rattle.page_text.specs.Parts.{bytesBefore, graphLength}
 use Rattle.page_text.specs.Claims.{Parts}
-use Rattle.page_text.proofs.PartLaws.{mark-here, mark-later, mark-nowhere}
+use Rattle.page_text.proofs.PartLaws.{graph-within, mark-here, mark-later, mark-nowhere}
 use Rattle.page_text.proofs.ClaimLaws.{length-parts}
 use Rattle.page_text.proofs.parts.graph_length.Statement.{statement}
 use Rattle.page_text.proofs.parts.graph_length.Tie as tie
 
 -- an answer that is the graph part's length has the parts
-counted : (s : List ℕ) {n : ℕ} → n ≡ graphLength s → (n ≡ graphLength s) × Parts s (take n s) (drop (n + 2) s)
-counted s e = (e, length-parts s e)
+counted : (s : List ℕ) {n : ℕ} → n ≡ graphLength s → (n ≡ graphLength s) × (Parts s (take n s) (drop (n + 2) s) × (n ≤ length s))
+counted s e = (e, (length-parts s e, omega (arith, e, graph-within s)))
 
 abbrev Inv-loop : tie.InvT-loop
 Inv-loop input starts₀ i₀ starts i = i + bytesBefore starts (drop i input) ≡ graphLength input

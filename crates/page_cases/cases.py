@@ -1,7 +1,7 @@
 #!/usr/bin/env python3
 """Writes stdin and stdout of the program page_cases beside this file: inputs of monitor and graph2aiger, each with the
-page that document 01 asks for, with the verdict of document 02. The pages are written here by hand, case by case; nothing is
-computed by the programs.
+page that document 01 asks for, with the verdict of document 02. The pages are written here by hand, case by case;
+nothing is computed by the programs.
 
 A case in stdin is a line `LENGTH<tab>LABEL` and then that many bytes; a label starts with `m` for the monitor's page
 and `a` for AIGER's. In stdout it is the label's line and then the page."""

@@ -1,25 +1,21 @@
 -- A netlist and its files are settled by the numbers that its header counts: surplus numbers say nothing. Assumes nothing.
 use mathlib.Core.Path.{_≡_, refl, sym, ap₂, _∙_}
 use mathlib.Core.Bool.{Bool, true, _&&_}
-use mathlib.Core.List.{List, _++_}
+use mathlib.Core.List.{List}
 use Prim.Native.Nat.{ℕ, zero, suc, _+_, _<_, _≤_}
 use native.Mathlib.Omega.{arith}
 use borrow.Author.Tests.{le-leb}
 use lib.Dec.{leb}
 use lib.ListN.{length, getD, take}
 use lib.Seq.{getD-take, length-take-le}
-use Rattle.text.specs.Writer.{joined}
+use Rattle.text.proofs.WriterLaws.{joined-same}
 use Rattle.netlist.specs.Layout.{maximum, inputCount, latchCount, outputCount, gateCount, nextAt, resetAt, outputAt, operandsAt, sizeOf}
 use Rattle.netlist.specs.Lanes.{each}
 use Rattle.netlist.specs.Valid.{headerOk, isWithin, isFree, latchOk, freeCount, outputOk, gateOk, isNetlist}
 use Rattle.netlist.proofs.ValidLaws.{valid}
 use Rattle.aiger.specs.Format.{latchLine, outputLine, gateLine, fileWith}
 
--- what is the same at each number below a count is the same joined, and tested
-joined-same : (f g : ℕ → List ℕ) (n : ℕ) → ((k : ℕ) → k < n → f k ≡ g k) → joined f n ≡ joined g n
-joined-same f g zero h = refl
-joined-same f g (suc n) h = ap₂ _++_ (joined-same f g n (λ k l. h k (omega arith))) (h n (omega arith))
-
+-- what is the same at each number below a count is tested alike
 each-same : (f g : ℕ → Bool) (n : ℕ) → ((k : ℕ) → k < n → f k ≡ g k) → each n f ≡ each n g
 unfolding each
 each-same f g zero h = refl

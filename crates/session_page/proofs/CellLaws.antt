@@ -6,14 +6,16 @@ use Prim.Native.Nat.{ℕ, zero, suc, _+_, _-_, _*_, _/_, _%_, _<_, _≤_}
 use native.Mathlib.Numerals.{add-one}
 use native.Mathlib.Omega.{arith}
 use native.Mathlib.Decide.{ℕ-discrete}
-use borrow.Author.Tests.{eq-eqb, ne-eqb, lt-ltb, le-ltb}
+use borrow.Author.Tests.{eq-eqb, ne-eqb}
 use lib.Dec.{eqb}
 use lib.ListN.{length, getD, take, length-append, List·getD-append, replicate-append-replicate}
 use lib.Seq.{getD-append-seam, take-suc, length-take-le}
 use Rattle.text.specs.Writer.{joined}
+use Rattle.text.proofs.WriterLaws.{joined-same}
 use Rattle.session_text.specs.Fields.{blanks, right}
 use Rattle.session_text.specs.Pages.{rejectedFrom, rejectedOf, cell, cellLine, cellLines}
 use Rattle.session_text.specs.Claims.{restBlank}
+use Rattle.session_text.proofs.CellLaws.{cell-number, cell-blank}
 use Rattle.session_text.proofs.RejectedLaws.{rejected-yes, rejected-no, rejected-none, rejected-snoc}
 use Rattle.session_page.specs.Private.Writers.{cellText, cycleText, cellsEnd}
 
@@ -27,10 +29,6 @@ unfolding cellsEnd
 cells-open cells d = rw (ne-eqb (cells % 10) 0 d)
 
 -- ---- texts one after another
-joined-same : (f g : ℕ → List ℕ) (n : ℕ) → ((i : ℕ) → i < n → f i ≡ g i) → joined f n ≡ joined g n
-joined-same f g zero h = refl
-joined-same f g (suc n) h = ap₂ _++_ (joined-same f g n (λ i l. h i (omega arith))) (h n (omega arith))
-
 regroup : (a b c d : List ℕ) → (a ++ b) ++ (c ++ d) ≡ a ++ ((b ++ c) ++ d)
 regroup a b c d = append-assoc a b (c ++ d) ∙ ap (λ (s : List ℕ). a ++ s) (sym (append-assoc b c d))
 
@@ -82,10 +80,9 @@ module _ (rejected : List ℕ) where
       ∙ append-assoc (joined (cellLine rejected) i) (joined (cellsOf i) j) (cellsOf i j)
 
   cell-is : (n i j : ℕ) → n < length rejected → n / 10 ≡ i → n % 10 ≡ j → right 8 (getD rejected n 0) ≡ cellsOf i j
-  unfolding cell
   cell-is n i j h q r =
       let e : 10 * i + j ≡ n = omega (arith, q, r) in
-      rw (e, lt-ltb n (length rejected) h)
+      rw e (sym (cell-number rejected n h))
 
   one-more : (n : ℕ) → n < length rejected → laid n ++ cellText n (getD rejected n 0) ≡ laid (suc n)
   unfolding cellText
@@ -107,17 +104,13 @@ module _ (rejected : List ℕ) where
   laid-out (suc n) h = ap (λ (s : List ℕ). s ++ cellText n (getD rejected n 0)) (laid-out n (omega arith)) ∙ one-more n (omega arith)
 
   -- blank cells after the last
-  cell-empty : (j : ℕ) → length rejected ≤ j → cell rejected j ≡ blanks 8
-  unfolding cell
-  cell-empty j h = rw (le-ltb j (length rejected) h)
-
   blank-cells : (i j d : ℕ) → length rejected ≤ 10 * i + j → joined (cellsOf i) (d + j) ≡ joined (cellsOf i) j ++ blanks (8 * d)
   blank-cells i j zero h = let z : 0 + j ≡ j = omega arith in rw z (sym (append-nil (joined (cellsOf i) j)))
   blank-cells i j (suc d) h =
       let z : suc d + j ≡ suc (d + j) = omega arith in
       let k : 8 * d + 8 ≡ 8 * suc d = omega arith in
       ap (joined (cellsOf i)) z
-      ∙ ap₂ _++_ (blank-cells i j d h) (cell-empty (10 * i + (d + j)) (omega arith))
+      ∙ ap₂ _++_ (blank-cells i j d h) (cell-blank rejected (10 * i + (d + j)) (omega arith))
       ∙ append-assoc (joined (cellsOf i) j) (blanks (8 * d)) (blanks 8)
       ∙ ap (λ (s : List ℕ). joined (cellsOf i) j ++ s) (replicate-append-replicate {A = ℕ} (8 * d) 8 32 ∙ ap blanks k)
 

@@ -13,8 +13,8 @@ use Rattle.session_text.specs.Claims.{Right, columns}
 use Rattle.session_text.proofs.FieldLaws.{widths}
 use Rattle.session_text.proofs.PieceLaws.{piece-at, joined-length, Split, split}
 
-module _ (rejected : List ℕ) (small : (j : ℕ) → j < length rejected → getD rejected j 0 ≤ 524288) where
-  cell-number : (j : ℕ) → j < length rejected → cell rejected j ≡ right 8 (getD rejected j 0)
+module _ (rejected : List ℕ) where
+  pub cell-number : (j : ℕ) → j < length rejected → cell rejected j ≡ right 8 (getD rejected j 0)
   unfolding cell
   cell-number j h = rw (lt-ltb j (length rejected) h)
 
@@ -22,16 +22,17 @@ module _ (rejected : List ℕ) (small : (j : ℕ) → j < length rejected → ge
   unfolding cell
   cell-blank j h = rw (le-ltb j (length rejected) h)
 
+module _ (rejected : List ℕ) (small : (j : ℕ) → j < length rejected → getD rejected j 0 ≤ 524288) where
   pub cell-field : (j : ℕ) → j < length rejected → Right 8 (getD rejected j 0) (cell rejected j)
   cell-field j h =
-      subst (Right 8 (getD rejected j 0)) (sym (cell-number j h)) (widths 8 (getD rejected j 0) (omega arith) (omega (arith, small j h)) .field)
+      subst (Right 8 (getD rejected j 0)) (sym (cell-number rejected j h)) (widths 8 (getD rejected j 0) (omega arith) (omega (arith, small j h)) .field)
 
   cell-length : (j : ℕ) → length (cell rejected j) ≡ 8
   cell-length j = go (decLt j (length rejected))
     where
       go : Dec (j < length rejected) → length (cell rejected j) ≡ 8
       go (yes h) = cell-field j h .wide
-      go (no h) = ap length (cell-blank j (omega (arith, h)))
+      go (no h) = ap length (cell-blank rejected j (omega (arith, h)))
 
   abbrev cellsOf : ℕ → ℕ → List ℕ
   cellsOf i j = cell rejected (10 * i + j)

@@ -63,7 +63,7 @@ module _ (name verdicts : List ℕ) (short : length name ≤ 24) (few : length v
         cycles = subst (Right 10 (length verdicts)) (sym (ap (λ (p : List ℕ). columns p 0 24 10) page-is ∙ cycles-at name short (length verdicts) few (middle ++ last))) (cycles-field name short (length verdicts) few);
         title-rest = ap (λ (p : List ℕ). columns p 0 34 47) page-is ∙ rest-at name short (length verdicts) few (middle ++ last);
         cells = λ j h. subst (Right 8 (getD rejected j 0)) (sym (cells-columns j (omega arith))) (cell-field rejected small j h);
-        no-cells = λ j h l. cells-columns j l ∙ cell-blank rejected small j h;
+        no-cells = λ j h l. cells-columns j l ∙ cell-blank rejected j h;
         line-ends = λ i h. ap (λ (p : List ℕ). columns p (1 + i) 80 1) page-is ∙ lf-at rejected small first last (title-length name short (length verdicts) few) n i h;
         last-line = subst (λ (p : List ℕ). LastLine (length verdicts) (length rejected) p (1 + n)) (sym (page-is ∙ sym (append-assoc first middle last)))
             (last-columns (length verdicts) (length rejected) few (rejected-most 1 verdicts) (first ++ middle) (1 + n) before-last);

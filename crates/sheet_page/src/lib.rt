@@ -1,8 +1,8 @@
 // The page of the sheet program, as a function on slices: a graph name, and the session page of the monitor's judgement of
 // a trace. A refusal of what the page needs is the page's text; the page itself is refused only where the buffer is too
-// short for it. Knows nothing of where its bytes come from or go to. Exports that it refuses what the monitor's page
-// refuses, and that the sheet of every other input names exactly the cycles that some setting and some rejecting path
-// condemn: the clause `sheet` of `sheet_page`.
+// short for it. Knows nothing of where its bytes come from or go to. Exports what is printed of every input, of one that is
+// not refused a sheet of exactly the cycles that some setting and some rejecting path condemn: the clause `sheet` of
+// `sheet_page`; and that what the monitor's page refuses after the name's line is refused alike: the clause `monitor`.
 use judge::Judged;
 use page::Paged;
 use page::refused_page;

@@ -122,7 +122,6 @@ each-digits =
     digits-ind (λ n. EachDigit (digits n)) (λ n h. rw (digits-small n h) (digit n, tt))
     (λ n h ih. rw (digits-more n h) (each-snoc (digits (n / 10)) (48 + n % 10) ih (digit n)))
 
--- a digit is no byte that is none, as LF, blank and tab
 -- only 0 starts with the digit `0`
 pub digits-lead : (n : ℕ) → 0 < n → getD (digits n) 0 0 ≡ 48 → ⊥
 digits-lead =

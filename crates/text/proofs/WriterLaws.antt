@@ -1,7 +1,7 @@
 -- Writers run one after another write one text after another, and what a written buffer holds. Assumes nothing.
-use mathlib.Core.Path.{_≡_, refl, sym, ap, _∙_}
+use mathlib.Core.Path.{_≡_, refl, sym, ap, ap₂, _∙_}
 use mathlib.Core.List.{List, [], _∷_, _++_}
-use Prim.Native.Nat.{ℕ, suc, _+_, _≤_, _<_}
+use Prim.Native.Nat.{ℕ, zero, suc, _+_, _≤_, _<_}
 use native.Mathlib.Nat.{add-zero, zero-add, add-suc, suc-add}
 use native.Mathlib.Numerals.{add-one}
 use native.Mathlib.Decide.{decLe}
@@ -52,6 +52,11 @@ none l i h = record { small = h; place = omega arith; bytes = refl }
 -- one more text of `joined`, as a loop's turn writes it
 pub more : (f : ℕ → List ℕ) {l m r : List ℕ} {i j k : ℕ} (n : ℕ) → Wrote l m i j (joined f n) → Wrote m r j k (f n) → Wrote l r i k (joined f (n + 1))
 more f n p q = rw add-one (then p q)
+
+-- the same texts, one after the other
+pub joined-same : (f g : ℕ → List ℕ) (n : ℕ) → ((k : ℕ) → k < n → f k ≡ g k) → joined f n ≡ joined g n
+joined-same f g zero h = refl
+joined-same f g (suc n) h = ap₂ _++_ (joined-same f g n (λ k l. h k (omega arith))) (h n (omega arith))
 
 -- the buffer keeps its length
 pub kept : {l r : List ℕ} {i k : ℕ} {s : List ℕ} → Wrote l r i k s → length r ≡ length l

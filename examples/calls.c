@@ -1,5 +1,6 @@
 /* Ludopoplar from C: builds the monitor of a small graph, writes its AIGER file and reads it back, runs a
-   trace on it, tells its rejections in a million, and shows a refusal. At the repository's root:
+   trace on it, tells its rejections in a million, shows what a graph without marks means, and a refusal. At the
+   repository's root:
 
      cc -std=c99 -Iinclude -o calls examples/calls.c target/staticlib/libludopoplar.a && ./calls */
 #include <inttypes.h>
@@ -10,6 +11,9 @@
 
 /* in a cycle of init, if p holds then q must hold */
 static const char graph[] = "S\tp\nS\tq\nV\ta\nV\tb\nE\ta\tb\tt\tp\tq\n";
+
+/* the same and a loop on b; no edge has mark t */
+#define UNMARKED "S\tp\nS\tq\nV\ta\nV\tb\nE\ta\tb\t-\tp\tq\nE\tb\tb\t-\tp\t1\n"
 
 /* a cycle a line: init, p, q */
 static const char trace[] = "110\n111\n010\n";
@@ -29,6 +33,20 @@ static int accepted(const char *call, uint64_t code) {
 }
 
 static const uint8_t *bytes(const char *text) { return (const uint8_t *)text; }
+
+/* Judges one cycle, init with p and without q. */
+static int judge(const char *label, const char *text) {
+    uint64_t gates = 0, word = 0;
+    uint32_t cycles = 0, rejected = 0;
+
+    if (!accepted("build", ludo_build(bytes(text), strlen(text), net, LENGTH(net), &gates)) ||
+        !accepted("start", ludo_start(net, LENGTH(net), latches, LENGTH(latches), &cycles, &rejected)) ||
+        !accepted("step", ludo_step(net, LENGTH(net), bytes("110"), 3, latches, LENGTH(latches),
+                                    values, LENGTH(values), &cycles, &rejected, &word)))
+        return 0;
+    printf("%s: gates %" PRIu64 ", %s\n", label, gates, rejected == 0 ? "accepted" : "rejected");
+    return 1;
+}
 
 int main(void) {
     uint64_t gates = 0, length = 0, numbers = 0, verdict = 0, whole = 0, remainder = 0;
@@ -61,6 +79,11 @@ int main(void) {
     if (!accepted("per million", ludo_per_million(cycles, rejected, &whole, &remainder)))
         return 1;
     printf("rejected in a million %" PRIu64 ", remainder %" PRIu64 "\n", whole, remainder);
+
+    /* where no edge has mark t all are terminal, unless the first line is M terminal */
+    if (!judge("no mark", UNMARKED) || !judge("no mark, M strong", "M\tstrong\n" UNMARKED) ||
+        !judge("no mark, M terminal", "M\tterminal\n" UNMARKED))
+        return 1;
 
     /* a vertex without a name */
     accepted("build", ludo_build(bytes("V\n"), 2, made, LENGTH(made), &gates));

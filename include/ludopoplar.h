@@ -22,8 +22,9 @@
       number  line   cause
         1     0      too long: graph over 32,768 bytes, AIGER over 65,536, trace over 1,048,576; session page:
                      more than 524,288 verdicts
-        2     its    graph: line of no record's shape, or last line without LF
-        3     its    graph: kind of record out of order
+        2     its    graph: line of no record's shape, last line without LF, or M line with another word than
+                     terminal or strong
+        3     its    graph: kind of record out of order, or M line that is not the first line
         4     its    graph: one record too many
         5     its    graph: name repeated
         6     its    graph: edge to or from an unknown vertex
@@ -78,10 +79,13 @@ extern "C" {
 /* Builds the netlist of a graph text into `net`; `*gates` is the number A of its gates.
 
    The text has one record a line, each ended by LF, its fields parted by one tab, kinds in this order:
+     M mode                                       first line or none; mode terminal or strong
      S name                                       signal, 0 to 63
      K name                                       constant bit, 0 to 6
      V name                                       vertex, 1 to 64; the first is the start
-     E from to mark antecedent consequent         edge, 0 to 128; mark t (terminal) or -
+     E from to mark antecedent consequent         edge, 0 to 128; mark t or -
+   Which edges are terminal is decided when the whole text is read. With no M line those with mark t are, or all
+   where none has it; with M terminal those with mark t, even where there is none; with M strong all.
    A name is a letter, then letters, digits or _, 1 to 15 bytes. A formula is 1 to 255 bytes without blanks:
    names, 0, 1, ( ), and ! & ^ | = from tightest to loosest. Input 1 of the netlist is init, then come the
    signals; each constant bit is an uninitialised latch. */

@@ -1,6 +1,7 @@
 #!/usr/bin/env python3
-"""Writes stdin and stdout of the program examples beside this file: document 01's bench examples of graphs, and
-examples of AIGER files, each with its answer. The answers are written here by hand; nothing is computed by the program.
+"""Writes stdin and stdout of the program examples beside this file: document 01's bench examples of graphs,
+the gates of graphs by which edges are terminal (document 02, No. 5), and examples of AIGER files, each with its answer.
+The answers are written here by hand; nothing is computed by the program.
 
 An example in stdin is five fields, each a line with its length and then that many bytes: name, text, the text when it is
 written again where that differs, trace, answer. In stdout it is a line: name, answer and `ok`, parted by tabs."""
@@ -51,6 +52,34 @@ graph("a signal of 16 bytes", lines("S " + "s" * 16, "V a"), "refused 2 1")
 # 7 x 128 for the edges, 128 and 127 to join what comes in at the one vertex, 127 for accept
 graph("128 edges", lines("V a", *["E a a t 1 1"] * 128), "1278 gates")
 graph("129 edges", lines("V a", *["E a a t 1 1"] * 129), "refused 4 130")
+
+# ---- gates by which edges are terminal: document 02, No. 5. A number after a graph is its number among the request's
+# worked cases. One edge on one vertex costs 7 and 1, two cost 14, 2 and 1; accept costs 1 where both are terminal.
+FALSE, TRUE = "E a a - 1 0", "E a a t 1 1"
+UNMARKED = [*G[:-1], "E a b - p q"]
+graph("no edge marked", lines("V a", FALSE), "8 gates")  # 1
+graph("M terminal, no edge marked", lines("M terminal", "V a", FALSE), "8 gates")  # 2
+graph("M strong, one of two marked", lines("M strong", "V a", FALSE, TRUE), "18 gates")  # 3
+graph("one of two marked", lines("V a", FALSE, TRUE), "17 gates")  # 4
+graph("M terminal, one of two marked", lines("M terminal", "V a", FALSE, TRUE), "17 gates")  # 5
+graph("no edge", lines("V a"), "0 gates")  # 6
+graph("M strong, no edge", lines("M strong", "V a"), "0 gates")  # 7
+graph("M is a name", lines("M strong", "S M", "V M", "E M M - M M"), "8 gates")  # 27
+graph("G unmarked", lines(*UNMARKED), "7 gates")  # 28
+graph("M terminal, G unmarked", lines("M terminal", *UNMARKED), "7 gates")  # 28
+graph("M strong, G unmarked", lines("M strong", *UNMARKED), "7 gates")  # 28
+graph("two edges, none marked", lines("V a", FALSE, FALSE), "18 gates")
+graph("M terminal, two edges, none marked", lines("M terminal", "V a", FALSE, FALSE), "17 gates")
+graph("M alone", lines("M terminal"), "refused 10 0")  # 8
+graph("M after a vertex", lines("V a", "M strong"), "refused 3 2")  # 17
+# 128 edges as above
+graph("128 edges, none marked", lines("V a", *["E a a - 1 1"] * 128), "1278 gates")
+# six edges on one vertex: 1 input, 12 latches and 42 + 6 + 5 gates, 3 for each of 1,341 times `^`, 2 for two times `&`,
+# and 5 for accept where all are terminal: 4,096 variables; 4,091 where none is
+sides = ["1" + "^0" * n for n in [127] * 10 + [71]] + ["0&0&0"]
+over = lines("V a", *[f"E a a - {sides[k]} {sides[k + 1]}" for k in range(0, 12, 2)])
+graph("4,096 variables, no edge marked", over, "refused 11 0")
+graph("M terminal, 4,091 variables", lines("M terminal") + over, "4078 gates")
 
 # ---- the examples of "The AIGER And-Inverter Graph Format". Within the subset: one output, inputs, M = I + L + A,
 # variables in order, larger operand first, nothing after the last gate.

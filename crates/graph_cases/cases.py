@@ -1,6 +1,7 @@
 #!/usr/bin/env python3
 """Writes stdin and stdout of the program graph_cases beside this file: graph texts, each with what document 01
-says of it. What is expected is written here by hand, case by case; nothing is computed from the reader.
+says of it, and document 02, No. 5, of its line `M`. What is expected is written here by hand, case by case; nothing is
+computed from the reader.
 
 A case in stdin is a line `LENGTH<tab>LABEL` and then that many bytes. In stdout it is a line `LABEL`, and `ok` with
 the numbers of signals, constants, vertices and edges, or `refused` with number and line, parted by tabs."""
@@ -167,6 +168,73 @@ text = body + last
 assert len(text) == 32768, len(text)
 ok("32,768 bytes", text, 1, 0, 1, 128)
 refused("32,769 bytes", text + b"\n", 1, 0)
+
+# ---- document 02, No. 5: the line `M`. A number after a case is its number among the request's worked cases; 6 is
+# "one vertex" above.
+FALSE, TRUE = "E a a - 1 0", "E a a t 1 1"
+UNMARKED = [*G[:-1], "E a b - p q"]
+ok("no edge marked", lines("V a", FALSE), 0, 0, 1, 1)  # 1
+ok("M terminal, no edge marked", lines("M terminal", "V a", FALSE), 0, 0, 1, 1)  # 2
+ok("M strong, one edge of two marked", lines("M strong", "V a", FALSE, TRUE), 0, 0, 1, 2)  # 3
+ok("one edge of two marked", lines("V a", FALSE, TRUE), 0, 0, 1, 2)  # 4
+ok("M terminal, one edge of two marked", lines("M terminal", "V a", FALSE, TRUE), 0, 0, 1, 2)  # 5
+ok("M strong, one vertex", lines("M strong", "V a"), 0, 0, 1, 0)  # 7
+refused("10: M terminal alone", lines("M terminal"), 10, 0)  # 8
+refused("10: M strong alone", lines("M strong"), 10, 0)  # 9
+refused("M and another word", lines("M weak", "V a"), 2, 1)  # 10
+refused("M Strong", lines("M Strong", "V a"), 2, 1)  # 11
+refused("M and no word", lines("M"), 2, 1)  # 12
+refused("M and an empty word", lines("M ", "V a"), 2, 1)  # 13
+refused("M and a third field", lines("M terminal x", "V a"), 2, 1)  # 14
+refused("M strong without LF", b"M\tstrong", 2, 1)  # 15
+refused("lower case M", lines("m strong", "V a"), 2, 1)  # 16
+refused("3: M after a vertex", lines("V a", "M strong"), 3, 2)  # 17
+refused("3: M after a signal", lines("S p", "M terminal", "V a"), 3, 2)  # 18
+refused("3: M after an edge", lines("V a", FALSE, "M terminal"), 3, 3)  # 19
+refused("3: M twice", lines("M terminal", "M terminal", "V a"), 3, 2)  # 20
+refused("2 before 3: another word, in a second M", lines("M terminal", "M weak", "V a"), 2, 2)  # 21
+refused("2 before 3: another word, after a vertex", lines("V a", "M weak"), 2, 2)  # 22
+refused("M, then a signal after a vertex", lines("M terminal", "V a", "S p"), 3, 3)  # 23
+refused("M, then a signal after a constant", lines("M terminal", "K k", "S p", "V a"), 3, 3)  # 24
+refused("M, then a vertex repeated", lines("M strong", "V a", "V a"), 5, 3)  # 25
+refused("M, then an edge before any vertex", lines("M strong", TRUE), 6, 2)  # 26
+ok("M is a name", lines("M strong", "S M", "V M", "E M M - M M"), 1, 0, 1, 1)  # 27
+ok("graph G unmarked", lines(*UNMARKED), 2, 0, 2, 1)  # 28
+ok("M terminal, graph G unmarked", lines("M terminal", *UNMARKED), 2, 0, 2, 1)  # 28
+ok("M strong, graph G unmarked", lines("M strong", *UNMARKED), 2, 0, 2, 1)  # 28
+
+# just these bytes
+refused("M and a word cut short", lines("M stron", "V a"), 2, 1)
+refused("M and a longer word", lines("M terminals", "V a"), 2, 1)
+refused("M and an empty third field", lines("M strong ", "V a"), 2, 1)
+refused("M, tab doubled", lines("M  strong", "V a"), 2, 1)
+refused("M, blank for a tab", b"M strong\nV\ta\n", 2, 1)
+refused("M, CR before LF", b"M\tstrong\r\nV\ta\n", 2, 1)
+refused("M of two bytes", lines("MM strong", "V a"), 2, 1)
+refused("M without LF", b"M", 2, 1)
+
+# in line 1 alone
+refused("3: M twice, another good word", lines("M strong", "M terminal", "V a"), 3, 2)
+refused("3: M after a constant", lines("K k", "M strong", "V a"), 3, 2)
+refused("3: M, and M after a vertex", lines("M strong", "V a", "M strong"), 3, 3)
+refused("empty line before M", lines("", "M strong", "V a"), 2, 1)
+refused("3 in line 2, 2 in line 3, with M", lines("V a", "M strong", "M weak"), 3, 2)
+refused("2 in line 1, 3 in line 2, with M", lines("M weak", "M strong", "V a"), 2, 1)
+
+# it uses up no record, counts as a line, and changes no other rule
+ok("M, 63 signals", lines("M terminal", *[f"S s{i}" for i in range(63)], "V a"), 63, 0, 1, 0)
+refused("M, 64 signals", lines("M terminal", *[f"S s{i}" for i in range(64)]), 4, 65)
+ok("M, 6 constants", lines("M terminal", *[f"K k{i}" for i in range(6)], "V a"), 0, 6, 1, 0)
+refused("M, 7 constants", lines("M terminal", *[f"K k{i}" for i in range(7)]), 4, 8)
+ok("M, 64 vertices", lines("M strong", *[f"V v{i}" for i in range(64)]), 0, 0, 64, 0)
+refused("M, 65 vertices", lines("M strong", *[f"V v{i}" for i in range(65)]), 4, 66)
+ok("M, 128 edges", lines("M strong", "V a", *["E a a - 1 1"] * 128), 0, 0, 1, 128)
+refused("M, 129 edges", lines("M strong", "V a", *["E a a - 1 1"] * 129), 4, 131)
+ok("128 edges, none marked", lines("V a", *["E a a - 1 1"] * 128), 0, 0, 1, 128)
+refused("M strong, mark of another byte", lines("M strong", "V a", "E a a x 1 1"), 2, 3)
+refused("M strong, empty mark", lines("M strong", "V a") + b"E\ta\ta\t\t1\t1\n", 2, 3)
+refused("M, then a last line without LF", lines("M strong", "V a") + b"V\tb", 2, 3)
+refused("M, then an unknown name", lines("M terminal", "V a", "E a a - p 1"), 9, 3)
 
 with open(os.path.join(here, "stdin"), "wb") as f:
     for label, text, _ in cases:

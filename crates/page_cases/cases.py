@@ -1,7 +1,7 @@
 #!/usr/bin/env python3
 """Writes stdin and stdout of the program page_cases beside this file: inputs of monitor and graph2aiger, each with the
-page that document 01 asks for, with the verdict of document 02. The pages are written here by hand, case by case;
-nothing is computed by the programs.
+page that document 01 asks for, with the verdict and the terminal edges of document 02 (No. 2 and 5). The pages are
+written here by hand, case by case; nothing is computed by the programs.
 
 A case in stdin is a line `LENGTH<tab>LABEL` and then that many bytes; a label starts with `m` for the monitor's page
 and `a` for AIGER's. In stdout it is the label's line and then the page."""
@@ -42,6 +42,7 @@ def aiger(label, text, file):
 
 G = ["S p", "S q", "V a", "V b", "E a b t p q"]
 G2 = G + ["E b b t p 1"]
+UNMARKED = [*G[:-1], "E a b - p q"]
 K = ["S p", "K k", "V a", "V b", "E a b t k p"]
 ONE = ["V a", "E a a t 1 0"]
 # a false consequent shows only a cycle later, on the terminal edge
@@ -70,10 +71,35 @@ monitor("no path is left after the terminal edge", lines(*LATE, "T", "110", "000
 monitor("restart by init in mid-trace", lines(*LATE, "T", "110", "100"), "sum 2 0 accepted")
 monitor("restart and a new path", lines(*LATE, "T", "110", "110", "000"), "R 3", "sum 3 1 rejected")
 monitor("a later false antecedent ends a condemned path", lines(*G2, "T", "110", "001", "011"), "R 1", "sum 3 1 rejected")
-monitor("no terminal edge", lines("V a", "E a a - 1 0", "T", "1", "0"), "sum 2 0 accepted")
+monitor("no terminal edge", lines("M terminal", "V a", "E a a - 1 0", "T", "1", "0"), "sum 2 0 accepted")
+monitor("no edge marked", lines("V a", "E a a - 1 0", "T", "1", "0"), "R 1", "R 2", "sum 2 2 rejected")
 monitor("no edge", lines("V a", "T", "1", "0"), "sum 2 0 accepted")
 monitor("no signal", lines(*ONE, "T", "1", "0"), "R 1", "R 2", "sum 2 2 rejected")
 monitor("ten cycles", lines(*ONE, "T", *"1000000000"), *[f"R {n}" for n in range(1, 11)], "sum 10 10 rejected")
+
+# ---- which edges are terminal, and the line `M`: document 02, No. 5. A number after a case is its number among the
+# request's worked cases; those that are refused stand, but for some further down, in crates/graph_cases/cases.py.
+FALSE, TRUE = "E a a - 1 0", "E a a t 1 1"
+monitor("none marked", lines("V a", FALSE, "T", "1"), "R 1", "sum 1 1 rejected")  # 1
+monitor("M terminal, none marked", lines("M terminal", "V a", FALSE, "T", "1"), "sum 1 0 accepted")  # 2
+monitor("M strong, the other marked", lines("M strong", "V a", FALSE, TRUE, "T", "1"), "R 1", "sum 1 1 rejected")  # 3
+monitor("the other marked", lines("V a", FALSE, TRUE, "T", "1"), "sum 1 0 accepted")  # 4
+monitor("M terminal, the other marked", lines("M terminal", "V a", FALSE, TRUE, "T", "1"), "sum 1 0 accepted")  # 5
+monitor("no edge, no M", lines("V a", "T", "1"), "sum 1 0 accepted")  # 6
+monitor("M strong, no edge", lines("M strong", "V a", "T", "1"), "sum 1 0 accepted")  # 7
+monitor("M is a name", lines("M strong", "S M", "V M", "E M M - M M", "T", "11"), "sum 1 0 accepted")  # 27
+GTRACE = ["T", "110", "111", "010"]
+monitor("graph G unmarked", lines(*UNMARKED, *GTRACE), "R 1", "sum 3 1 rejected")  # 28
+monitor("M terminal, graph G unmarked", lines("M terminal", *UNMARKED, *GTRACE), "sum 3 0 accepted")  # 28
+monitor("M strong, graph G unmarked", lines("M strong", *UNMARKED, *GTRACE), "R 1", "sum 3 1 rejected")  # 28
+monitor("M terminal, graph G", lines("M terminal", *G, *GTRACE), "R 1", "sum 3 1 rejected")
+monitor("the first marked, the other false", lines("V a", TRUE, FALSE, "T", "1"), "sum 1 0 accepted")
+monitor("the last of two unmarked is false", lines("V a", "E a a - 1 1", FALSE, "T", "1"), "R 1", "sum 1 1 rejected")
+monitor("M strong, false consequent shows at once", lines("M strong", *LATE, "T", "110", "000"), "R 1", "R 2", "sum 2 2 rejected")
+monitor("M terminal, false consequent shows on the terminal edge", lines("M terminal", *LATE, "T", "110", "000"), "R 2", "sum 2 1 rejected")
+monitor("M, and T without a vertex", lines("M strong", "T", "1"), "refused 10 0")  # 9
+monitor("M in the trace", lines("M strong", "V a", "T", "M strong"), "refused 15 1")
+monitor("trace lines count from T with M", lines("M strong", *G, "T", "110", "11"), "refused 15 2")
 
 # ---- constants
 six = [f"K k{j}" for j in range(6)]
@@ -138,6 +164,11 @@ refused("8: depth 17", lines("V a", "E a a t 1 " + "!" * 17 + "1"), 8, 2)
 refused("9: unknown name", lines("V a", "E a a t p 1"), 9, 2)
 refused("10: no vertex", lines("S p", "K k"), 10, 0)
 page("a 10: empty input", b"", "refused 10 0")
+refused("10: M alone", lines("M terminal"), 10, 0)  # 8
+refused("2: M and another word", lines("M weak", "V a"), 2, 1)  # 10
+refused("3: M after a vertex", lines("V a", "M strong"), 3, 2)  # 17
+refused("3: M twice", lines("M terminal", "M terminal", "V a"), 3, 2)  # 20
+refused("6: unknown vertex, after M", lines("M strong", "E a a t 1 1"), 6, 2)  # 26
 
 # ---- 11. Six edges on one vertex, all terminal: 1 input, 12 latches and 42 + 6 + 5 + 5 gates, and those of the
 # formulas: 1,341 times `^`, three each, and one `&` make M = 13 + 58 + 4,024 = 4,095. One `&` more is over.
@@ -146,9 +177,9 @@ formulas = ["1" + "^0" * n for n in xors]
 assert 3 * sum(xors) + 1 == 4024 and max(map(len, formulas)) <= 255
 
 
-def full(last):
+def full(last, mark="t"):
     f = formulas + [last]
-    return lines("V a", *[f"E a a t {f[2 * k]} {f[2 * k + 1]}" for k in range(6)])
+    return lines("V a", *[f"E a a {mark} {f[2 * k]} {f[2 * k + 1]}" for k in range(6)])
 
 
 # every antecedent is 1, and the consequents are 1 but the last, which is 0
@@ -157,23 +188,26 @@ monitor("M is 4,095, and no false consequent", full("1&1") + lines("T", "1", "0"
 refused("11: M is 4,096", full("0&0&0"), 11, 0)
 monitor("11 before a wrong cycle", full("0&0&0") + b"T\n2\n", "refused 11 0")
 monitor("M is 4,095, a wrong cycle", full("0&0") + b"T\n2\n", "refused 15 1")
+# no edge marked: all are terminal, and the gates are as many
+monitor("M is 4,095, no edge marked", full("0&0", "-") + lines("T", "1", "0"), "R 1", "R 2", "sum 2 2 rejected")
 
-# ---- 1. 62 full edges and one that fills up the graph to 32,768 bytes, with few gates: each operand is a name of 15
-# bytes after up to 16 `!`.
+# ---- 1. A line `M`, 62 full edges and one that fills up the graph to 32,768 bytes, with few gates: each operand is a
+# name of 15 bytes after up to 16 `!`. The last edge has no mark, and an odd number of `!` makes its consequent false
+# where its antecedent is true. crates/graph_cases/cases.py has such texts without `M`.
 NAME = "s" * 15
 FULL = "&".join(["!" * 16 + NAME] * 8)
 assert len(FULL) == 255
 
 
 def long_graph(nots):
-    last = "&".join(["!" * 16 + NAME] * 7 + ["!" * nots + NAME])
-    return lines("S " + NAME, "V a", *[f"E a a t {FULL} {FULL}"] * 62, f"E a a t {FULL} {last}")
+    last = "&".join(["!" * 16 + NAME] * 6 + ["!" * 8 + NAME, "!" * nots + NAME])
+    return lines("M strong", "S " + NAME, "V a", *[f"E a a t {FULL} {FULL}"] * 62, f"E a a - {FULL} {last}")
 
 
-assert len(long_graph(2)) == 32768
-monitor("graph of 32,768 bytes", long_graph(2) + lines("T", "11", "00"), "sum 2 0 accepted")
-monitor("1: graph of 32,769 bytes", long_graph(3) + lines("T", "11", "00"), "refused 1 0")
-page("a 1: graph of 32,769 bytes", long_graph(3), "refused 1 0")
+assert len(long_graph(1)) == 32768
+monitor("graph of 32,768 bytes", long_graph(1) + lines("T", "11", "00"), "R 1", "sum 2 1 rejected")
+monitor("1: graph of 32,769 bytes", long_graph(2) + lines("T", "11", "00"), "refused 1 0")
+page("a 1: graph of 32,769 bytes", long_graph(2), "refused 1 0")
 
 # ---- AIGER files
 aiger("graph G", lines(*G), "aag 12 3 2 1 7, 2, 4, 6, 8 18, 10 25, 24, 12 8 3, 14 10 3, 16 4 2, 18 16 6, 20 16 7, 22 4 0, 24 23 21")
@@ -204,9 +238,36 @@ aiger(
     lines("S p", "V a", "E a a t !p&0|1 1"),
     "aag 14 2 2 1 10, 2, 4, 6 22, 8 29, 28, 10 6 3, 12 8 3, 14 11 3, 16 5 0, 18 17 0, 20 19 15, 22 20 1, 24 20 0, 26 19 12, 28 27 25",
 )
-aiger("no terminal edge", lines("S p", "S q", "V a", "V b", "E a b - p q"), "aag 12 3 2 1 7, 2, 4, 6, 8 18, 10 25, 1, 12 8 3, 14 10 3, 16 4 2, 18 16 6, 20 16 7, 22 4 0, 24 23 21")
-aiger("one vertex", lines("V a"), "aag 1 1 0 1 0, 2, 1")
+aiger("no terminal edge", lines("M terminal", *UNMARKED), "aag 12 3 2 1 7, 2, 4, 6, 8 18, 10 25, 1, 12 8 3, 14 10 3, 16 4 2, 18 16 6, 20 16 7, 22 4 0, 24 23 21")  # 28
+aiger("one vertex", lines("V a"), "aag 1 1 0 1 0, 2, 1")  # 6
 aiger("two vertices, a signal, a constant", lines("S p", "K k", "V a", "V b"), "aag 3 2 1 1 0, 2, 4, 6 6 6, 1")
+
+# ---- AIGER files, by which edges are terminal; numbers as above
+g = "aag 12 3 2 1 7, 2, 4, 6, 8 18, 10 25, 24, 12 8 3, 14 10 3, 16 4 2, 18 16 6, 20 16 7, 22 4 0, 24 23 21"
+aiger("no edge marked", lines(*UNMARKED), g)  # 28
+aiger("M strong, no edge marked", lines("M strong", *UNMARKED), g)  # 28
+loop = "8 4 3, 10 6 3, 12 9 3, 14 13 1, 16 14 0, 18 14 1, 20 10 1, 22 21 19"
+aiger("8 gates", lines("V a", FALSE), "aag 11 1 2 1 8, 2, 4 16, 6 23, 22," + loop)  # 1
+aiger("M terminal, 8 gates", lines("M terminal", "V a", FALSE), "aag 11 1 2 1 8, 2, 4 16, 6 23, 1," + loop)  # 2
+loops = (
+    # the latches masked by init, and the vertex
+    "12 4 3, 14 6 3, 16 8 3, 18 10 3, 20 13 3, 22 20 17, 24 19 15,"
+    # the edges
+    "26 23 1, 28 26 0, 30 26 1, 32 25 1, 34 33 31,"
+    "36 23 1, 38 36 1, 40 36 0, 42 25 1, 44 43 41"
+)
+by_mark = "aag 22 1 4 1 17, 2, 4 28, 6 35, 8 38, 10 45, 44," + loops
+strong = "aag 23 1 4 1 18, 2, 4 28, 6 35, 8 38, 10 45, 46," + loops + ", 46 44 34"
+aiger("M strong, 18 gates", lines("M strong", "V a", FALSE, TRUE), strong)  # 3
+aiger("the other marked, 17 gates", lines("V a", FALSE, TRUE), by_mark)  # 4
+aiger("M terminal, the other marked, 17 gates", lines("M terminal", "V a", FALSE, TRUE), by_mark)  # 5
+aiger("two unmarked, 18 gates", lines("V a", FALSE, "E a a - 1 1"), strong)
+aiger("M strong, one vertex", lines("M strong", "V a"), "aag 1 1 0 1 0, 2, 1")  # 7
+aiger(
+    "M is a name",
+    lines("M strong", "S M", "V M", "E M M - M M"),
+    "aag 12 2 2 1 8, 2, 4, 6 18, 8 25, 24, 10 6 3, 12 8 3, 14 11 3, 16 15 4, 18 16 4, 20 16 5, 22 12 4, 24 23 21",
+)  # 27
 
 with open(os.path.join(here, "stdin"), "wb") as f:
     for label, text, _ in cases:

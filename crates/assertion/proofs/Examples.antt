@@ -4,6 +4,8 @@ use Prim.Native.Nat.{ℕ}
 use mathlib.Core.Path.{_≡_, refl}
 use mathlib.Core.Bool.{Bool, true, false}
 use mathlib.Core.List.{List, [], _∷_}
+use Rattle.assertion.specs.declared.Mode.{Mode}
+use Rattle.assertion.specs.declared.Mode.the-variants.{Unsaid, Terminal, Strong}
 use Rattle.assertion.specs.Graph.{Bytes, Expr, signal, constant, truth, conj, disj, same, Edge, Graph, Cycle, isTerminal, input, isInit, holds}
 use Rattle.assertion.specs.Paths.{verdicts, isRejected, rejectedUnder, rejectsAlong}
 
@@ -32,10 +34,10 @@ abbrev loop : Edge
 loop = edge 1 1 true (signal 0) p (truth true) (49 ∷ [])
 
 abbrev G : Graph
-G = record { signals = p ∷ q ∷ []; constants = []; vertices = ab; edges = first ∷ [] }
+G = record { mode = Unsaid; signals = p ∷ q ∷ []; constants = []; vertices = ab; edges = first ∷ [] }
 
 abbrev G-loop : Graph
-G-loop = record { signals = p ∷ q ∷ []; constants = []; vertices = ab; edges = first ∷ loop ∷ [] }
+G-loop = record { mode = Unsaid; signals = p ∷ q ∷ []; constants = []; vertices = ab; edges = first ∷ loop ∷ [] }
 
 -- ---- formulas
 -- `p|q&r` at 1,0,0 is 1
@@ -74,19 +76,54 @@ not-asked : verdicts G [] (three 49 48 48 ∷ []) ≡ 0 ∷ []
 unfolding isRejected rejectedUnder rejectsAlong isTerminal holds isInit input
 not-asked = refl
 
--- G with `-` for `t` on 110: no path ends on a terminal edge
-no-terminal : verdicts (record { signals = p ∷ q ∷ []; constants = []; vertices = ab; edges = edge 0 1 false (signal 0) p (signal 1) q ∷ [] }) [] (three 49 49 48 ∷ []) ≡ 0 ∷ []
+-- G with `-` for `t` on 110, 111, 010: without a mode its edge is terminal, and G's cycles are rejected;
+-- with `M terminal` no path ends on a terminal edge; with `M strong` as without
+abbrev G-unmarked : Mode → Graph
+G-unmarked m = record { mode = m; signals = p ∷ q ∷ []; constants = []; vertices = ab; edges = edge 0 1 false (signal 0) p (signal 1) q ∷ [] }
+
+unmarked-rejects : verdicts (G-unmarked Unsaid) [] (three 49 49 48 ∷ three 49 49 49 ∷ three 48 49 48 ∷ []) ≡ 1 ∷ 0 ∷ 0 ∷ []
+unfolding isRejected rejectedUnder rejectsAlong isTerminal holds isInit input
+unmarked-rejects = refl
+
+no-terminal : verdicts (G-unmarked Terminal) [] (three 49 49 48 ∷ three 49 49 49 ∷ three 48 49 48 ∷ []) ≡ 0 ∷ 0 ∷ 0 ∷ []
 unfolding isRejected rejectedUnder rejectsAlong isTerminal holds isInit input
 no-terminal = refl
 
+strong-rejects : verdicts (G-unmarked Strong) [] (three 49 49 48 ∷ three 49 49 49 ∷ three 48 49 48 ∷ []) ≡ 1 ∷ 0 ∷ 0 ∷ []
+unfolding isRejected rejectedUnder rejectsAlong isTerminal holds isInit input
+strong-rejects = refl
+
+-- `E a a - 1 0` and `E a a t 1 1` on 1: where one edge is marked, the other is terminal under `M strong` alone
+abbrev G-mixed : Mode → Graph
+G-mixed m =
+    record {
+      mode = m;
+      signals = [];
+      constants = [];
+      vertices = (97 ∷ []) ∷ [];
+      edges = edge 0 0 false (truth true) (49 ∷ []) (truth false) (48 ∷ []) ∷ edge 0 0 true (truth true) (49 ∷ []) (truth true) (49 ∷ []) ∷ [];
+    }
+
+mixed-strong : verdicts (G-mixed Strong) [] ((49 ∷ []) ∷ []) ≡ 1 ∷ []
+unfolding isRejected rejectedUnder rejectsAlong isTerminal holds isInit input
+mixed-strong = refl
+
+mixed-unsaid : verdicts (G-mixed Unsaid) [] ((49 ∷ []) ∷ []) ≡ 0 ∷ []
+unfolding isRejected rejectedUnder rejectsAlong isTerminal holds isInit input
+mixed-unsaid = refl
+
+mixed-terminal : verdicts (G-mixed Terminal) [] ((49 ∷ []) ∷ []) ≡ 0 ∷ []
+unfolding isRejected rejectedUnder rejectsAlong isTerminal holds isInit input
+mixed-terminal = refl
+
 -- `E b b t 1 0` alone on 1: no path leaves the start vertex
-not-reached : verdicts (record { signals = []; constants = []; vertices = ab; edges = edge 1 1 true (truth true) (49 ∷ []) (truth false) (48 ∷ []) ∷ [] }) [] ((49 ∷ []) ∷ []) ≡ 0 ∷ []
+not-reached : verdicts (record { mode = Unsaid; signals = []; constants = []; vertices = ab; edges = edge 1 1 true (truth true) (49 ∷ []) (truth false) (48 ∷ []) ∷ [] }) [] ((49 ∷ []) ∷ []) ≡ 0 ∷ []
 unfolding isRejected rejectedUnder rejectsAlong isTerminal holds isInit input
 not-reached = refl
 
 -- `S p`, `K k`, one terminal edge `k`/`p` from the start vertex: 10 is rejected, 11 accepted
 abbrev G-constant : Graph
-G-constant = record { signals = p ∷ []; constants = (107 ∷ []) ∷ []; vertices = ab; edges = edge 0 1 true (constant 0) (107 ∷ []) (signal 0) p ∷ [] }
+G-constant = record { mode = Unsaid; signals = p ∷ []; constants = (107 ∷ []) ∷ []; vertices = ab; edges = edge 0 1 true (constant 0) (107 ∷ []) (signal 0) p ∷ [] }
 
 constant-rejected : verdicts G-constant [] ((49 ∷ 48 ∷ []) ∷ []) ≡ 1 ∷ []
 unfolding isRejected rejectedUnder rejectsAlong isTerminal holds isInit input

@@ -1,5 +1,6 @@
 -- The root of the laws.
 pub mod ListLaws
+pub mod TerminalLaws
 pub mod SinceLaws
 pub mod PathLaws
 mod Examples

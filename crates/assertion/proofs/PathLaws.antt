@@ -10,6 +10,7 @@ use Rattle.assertion.specs.Lists.{any, lists, From}
 use Rattle.assertion.specs.Graph.{Edge, Graph, Cycle, Setting}
 use Rattle.assertion.specs.Paths.{sinceInit, leaves, endsTerminal, antecedentsTrue, consequentFalse, RejectingPath, Rejected, rejectsAlong, rejectedUnder, isRejected, PathsMean}
 use Rattle.assertion.proofs.ListLaws.{and-intro, and-left, and-right, lists-intro, lists-elim}
+use Rattle.assertion.proofs.TerminalLaws.{reason, for-reason}
 use Rattle.assertion.proofs.SinceLaws.{since-none, since-some}
 
 -- a setting is a list of the two bits
@@ -73,6 +74,8 @@ passes false t = absurd t
 pub paths-mean : PathsMean
 paths-mean =
     record {
+      terminal = reason;
+      terminals = for-reason;
       found = λ g cs e. computed g cs .0 (subst T (sym e) tt);
       finds = λ g cs r. passes (isRejected g cs) (computed g cs .1 r);
       latest = since-some;

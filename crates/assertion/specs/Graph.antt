@@ -4,6 +4,9 @@ use mathlib.Core.Bool.{Bool, true, false, not, _&&_, _||_, Bool·beq}
 use mathlib.Core.List.{List, [], _∷_}
 use lib.ListN.{getD}
 use lib.Dec.{eqb}
+use Rattle.assertion.specs.Lists.{any}
+use Rattle.assertion.specs.declared.Mode.{Mode}
+use Rattle.assertion.specs.declared.Mode.the-variants.{Unsaid, Terminal, Strong}
 
 -- bytes of the text: a name, or a formula as it is written
 abbrev pub Bytes : Type 0
@@ -27,17 +30,20 @@ pub record Edge : Type 0 where
   pub antecedentText : Bytes
   pub consequentText : Bytes
 
--- the names of the signals, the constant bits and the vertices, and the edges, in the order of the text;
--- vertex 0 is the start
+-- what the text says of terminal edges; the names of the signals, the constant bits and the vertices, and
+-- the edges, in the order of the text; vertex 0 is the start
 pub record Graph : Type 0 where
+  pub mode : Mode
   pub signals : List Bytes
   pub constants : List Bytes
   pub vertices : List Bytes
   pub edges : List Edge
 
--- which edges are terminal
+-- Which edges are terminal. "A graph in which no edge is `t` shall be judged as if each were. A first line
+-- `M`, tab, `terminal` keeps the old rule", by which they are the edges with the mark; "`M`, tab, `strong`
+-- makes each edge terminal."
 unfoldable pub isTerminal : Graph → Edge → Bool
-isTerminal g e = e .marked
+isTerminal g e = elim (g .mode) [ Unsaid ↦ e .marked || not (any (λ f. f .marked) (g .edges)) | Terminal ↦ e .marked | Strong ↦ true ]
 
 -- ---- formulas
 -- a cycle is its bytes, `0` or `1`: input 1 is init, and then come the signals

@@ -3,10 +3,11 @@
 use Prim.Native.Nat.{ℕ, zero, suc, _+_}
 use mathlib.Core.Path.{_≡_}
 use mathlib.Core.Bool.{Bool, true, false, not, _&&_, _||_, cond}
-use mathlib.Core.List.{List, [], _∷_, _++_}
+use mathlib.Core.List.{List, [], _∷_, _++_, List·Memᴰ}
 use lib.ListN.{length}
 use lib.Dec.{T, eqb}
 use Rattle.assertion.specs.Lists.{any, lists, From}
+use Rattle.assertion.specs.declared.Mode.the-variants.{Unsaid, Strong}
 use Rattle.assertion.specs.Graph.{Edge, Graph, Cycle, Setting, isTerminal, isInit, holds}
 
 -- ---- the latest init
@@ -95,9 +96,17 @@ sum (x ∷ xs) = x + sum xs
 unfoldable pub countRejected : Graph → List Cycle → ℕ
 countRejected g cs = sum (verdicts g [] cs)
 
--- ---- THE CLAIM on these definitions: the computed test finds a setting and a rejecting path exactly
--- where there are some, and `sinceInit` goes back to the latest init
+-- ---- an edge is terminal for one of three reasons
+pub data TerminalEdge (g : Graph) (e : Edge) : Type 0 where
+  by-mode : g .mode ≡ Strong → TerminalEdge g e
+  by-mark : e .marked ≡ true → TerminalEdge g e
+  unmarked : g .mode ≡ Unsaid → ((f : Edge) → List·Memᴰ f (g .edges) → f .marked ≡ false) → TerminalEdge g e
+
+-- ---- THE CLAIM on these definitions: the computed tests find a terminal edge, and a setting and a rejecting
+-- path, exactly where there are some, and `sinceInit` goes back to the latest init
 pub record PathsMean : Type 0 where
+  pub terminal : (g : Graph) (e : Edge) → isTerminal g e ≡ true → TerminalEdge g e
+  pub terminals : (g : Graph) (e : Edge) → TerminalEdge g e → isTerminal g e ≡ true
   pub found : (g : Graph) (cs : List Cycle) → isRejected g cs ≡ true → Rejected g cs
   pub finds : (g : Graph) (cs : List Cycle) → Rejected g cs → isRejected g cs ≡ true
   pub latest : (cs : List Cycle) → any isInit cs ≡ true → Latest cs

@@ -6,27 +6,29 @@ use borrow.Author.Tests.{eq-eqb, ne-eqb}
 use lib.ListN.{length}
 use Rattle.assertion.specs.Graph.{Bytes, Graph}
 use Rattle.graph.specs.Reading.{Outcome, refused, accepted, finished, graphOf}
-use Rattle.graph.specs.Held.{heldOf, answerOf, readOf}
+use Rattle.graph.specs.Held.{heldAs, heldOf, answerOf, readOf}
 use Rattle.graph.specs.declared.Cause.{Cause}
 use Rattle.graph.specs.declared.Cause.the-variants.{NoVertex}
 use Rattle.graph.specs.declared.CheckedGraph.{CheckedGraph}
 use Rattle.graph.specs.declared.ReadOutcome.the-variants.{Checked, Refused}
 use Rattle.graph.specs.declared.GraphRead.{GraphRead}
 use Rattle.graph.specs.Claims.{Sound}
+use Rattle.graph.specs.Private.Steps.{writtenOf, chosenIn}
+use Rattle.graph.proofs.ModeLaws.{chosen}
 use Rattle.graph.proofs.HeldLaws.{sound}
 
-module _ (text : Bytes) (g : CheckedGraph) (graph : Graph) (h : g ≡ heldOf text graph) where
+module _ (text : Bytes) (g : CheckedGraph) (graph : Graph) (h : g ≡ writtenOf text graph) where
   counted : g .vertices ≡ length (graph .vertices)
-  unfolding heldOf
+  unfolding heldAs
   counted = ap (λ (x : CheckedGraph). x .vertices) h
 
   pub finish-none : g .vertices ≡ 0 → answerOf text (refused NoVertex) ≡ answerOf text (finished graph)
   unfolding finished
   finish-none z = rw (← counted, eq-eqb (g .vertices) 0 z)
 
-  pub finish-some : (g .vertices ≡ 0 → ⊥) → _≡_ {A = GraphRead} (record { outcome = Checked; graph = g }) (answerOf text (finished graph))
+  pub finish-some : (g .vertices ≡ 0 → ⊥) → {r : CheckedGraph} → r ≡ chosenIn g → _≡_ {A = GraphRead} (record { outcome = Checked; graph = r }) (answerOf text (finished graph))
   unfolding finished answerOf
-  finish-some z = rw (← counted, ne-eqb (g .vertices) 0 z, h)
+  finish-some z e = rw (← counted, ne-eqb (g .vertices) 0 z, e, chosen text g graph h)
 
 -- ---- for callers of `read_graph`
 -- a text that was checked, with the arrays g
@@ -41,7 +43,7 @@ pub record CheckedText (text : Bytes) (g : CheckedGraph) : Type 0 where
   pub graph-sound : Sound text graph
 
 checked-of : (text : Bytes) (o : Outcome) → graphOf text ≡ o → {r : GraphRead} → r ≡ answerOf text o → r .outcome ≡ Checked → CheckedText text (r .graph)
-unfolding answerOf heldOf
+unfolding answerOf heldOf heldAs
 checked-of text (accepted graph) o {r} e h =
     let a : r .graph ≡ heldOf text graph = ap (λ (x : GraphRead). x .graph) e in
     record {

@@ -10,10 +10,12 @@ use borrow.Author.Tests.{lt-ltb, le-ltb, le-leb, lt-leb}
 use lib.ListN.{length, take, set, replicate, length-append, length-replicate}
 use lib.Seq.{take-at, set-append-seam}
 use Rattle.assertion.specs.Graph.{Bytes, Edge, Graph}
+use Rattle.assertion.specs.declared.Mode.{Mode}
+use Rattle.assertion.specs.declared.Mode.the-variants.{Unsaid, Terminal, Strong}
 use Rattle.graph.specs.Pieces.{lookUp}
-use Rattle.graph.specs.Reading.{namesOf, judgedFormula, lower, addSignal, addConstant, addVertex, edgeOf, unlessFaulty, judgeEdge, addEdge}
-use Rattle.graph.specs.Held.{fieldAt, namePlaces, arcOf, arcsOf, noArc, filled, heldOf}
-use Rattle.graph.specs.Private.Steps.{held, namedOf, recordsOf, Holds, ArcAt, faultyOf, addedOf, withSignal, withConstant, withVertex, withEdge}
+use Rattle.graph.specs.Reading.{modeLines, addMode, namesOf, judgedFormula, lower, addSignal, addConstant, addVertex, edgeOf, unlessFaulty, judgeEdge, addEdge}
+use Rattle.graph.specs.Held.{fieldAt, namePlaces, arcOf, arcsOf, noArc, filled, heldAs}
+use Rattle.graph.specs.Private.Steps.{held, namedOf, recordsOf, writtenOf, Holds, ArcAt, faultyOf, addedOf, withMode, withSignal, withConstant, withVertex, withEdge}
 use Rattle.graph.specs.declared.Fault.{Fault}
 use Rattle.graph.specs.declared.Fault.the-variants.{WrongOrder, TooMany, NameRepeated, UnknownVertex}
 use Rattle.graph.specs.declared.Judged.{Judged}
@@ -46,17 +48,18 @@ places-more text n (suc c) =
     let e : n + 1 + c ≡ n + suc c = omega arith in
     ap (λ (l : List ℕ). fieldAt text n 1 ∷ l) (places-more text (n + 1) c ∙ rw e)
 
-pub arcs-length : (text : Bytes) (n : ℕ) (es : List Edge) → length (arcsOf text n es) ≡ length es
-unfolding arcsOf
-arcs-length text n [] = refl
-arcs-length text n (e ∷ es) = ap suc (arcs-length text (n + 1) es)
+module _ (t : Edge → Bool) (text : Bytes) where
+  pub arcs-length : (n : ℕ) (es : List Edge) → length (arcsOf t text n es) ≡ length es
+  unfolding arcsOf
+  arcs-length n [] = refl
+  arcs-length n (e ∷ es) = ap suc (arcs-length (n + 1) es)
 
-arcs-more : (text : Bytes) (n : ℕ) (es : List Edge) (e : Edge) → arcsOf text n (es ++ (e ∷ [])) ≡ arcsOf text n es ++ (arcOf text (n + length es) e ∷ [])
-unfolding arcsOf
-arcs-more text n [] e = rw (add-zero n)
-arcs-more text n (d ∷ es) e =
-    let z : n + 1 + length es ≡ n + suc (length es) = omega arith in
-    ap (λ (l : List Arc). arcOf text n d ∷ l) (arcs-more text (n + 1) es e ∙ rw z)
+  arcs-more : (n : ℕ) (es : List Edge) (e : Edge) → arcsOf t text n (es ++ (e ∷ [])) ≡ arcsOf t text n es ++ (arcOf text (n + length es) (t e) e ∷ [])
+  unfolding arcsOf
+  arcs-more n [] e = rw (add-zero n)
+  arcs-more n (d ∷ es) e =
+      let z : n + 1 + length es ≡ n + suc (length es) = omega arith in
+      ap (λ (l : List Arc). arcOf text n (t d) d ∷ l) (arcs-more (n + 1) es e ∙ rw z)
 
 -- the first are those given
 pub places-first : (text : Bytes) (m n c : ℕ) → take c (filled m 0 (namePlaces text n c)) ≡ namePlaces text n c
@@ -69,11 +72,11 @@ places-push text m n c h =
     rw (add-one c, places-more text n c)
     (ap (λ (k : ℕ). set (filled m 0 (namePlaces text n c)) k (fieldAt text (n + c) 1)) (sym l) ∙ filled-push m 0 (namePlaces text n c) (fieldAt text (n + c) 1) (rw l h))
 
-arcs-push : (text : Bytes) (n : ℕ) (es : List Edge) (e : Edge) → length es < 128 → set (filled 128 noArc (arcsOf text n es)) (length es) (arcOf text (n + length es) e) ≡ filled 128 noArc (arcsOf text n (es ++ (e ∷ [])))
-arcs-push text n es e h =
-    let l = arcs-length text n es in
-    rw (arcs-more text n es e)
-    (ap (λ (k : ℕ). set (filled 128 noArc (arcsOf text n es)) k (arcOf text (n + length es) e)) (sym l) ∙ filled-push 128 noArc (arcsOf text n es) (arcOf text (n + length es) e) (rw l h))
+arcs-push : (t : Edge → Bool) (text : Bytes) (n : ℕ) (es : List Edge) (e : Edge) → length es < 128 → set (filled 128 noArc (arcsOf t text n es)) (length es) (arcOf text (n + length es) (t e) e) ≡ filled 128 noArc (arcsOf t text n (es ++ (e ∷ [])))
+arcs-push t text n es e h =
+    let l = arcs-length t text n es in
+    rw (arcs-more t text n es e)
+    (ap (λ (k : ℕ). set (filled 128 noArc (arcsOf t text n es)) k (arcOf text (n + length es) (t e) e)) (sym l) ∙ filled-push 128 noArc (arcsOf t text n es) (arcOf text (n + length es) (t e) e) (rw l h))
 
 pub none-list : {A : Type 0} (l : List A) → length l ≡ 0 → l ≡ []
 none-list [] h = refl
@@ -82,47 +85,54 @@ none-list (x ∷ l) h = absurd (omega arith)
 pub one-more : {A : Type 0} (l : List A) (x : A) → length (l ++ (x ∷ [])) ≡ length l + 1
 one-more l x = length-append l (x ∷ [])
 
-graph-is : {a a2 b b2 c c2 d d2 : ℕ} {n n2 p p2 : List ℕ} {r r2 : List Arc} → a ≡ a2 → b ≡ b2 → c ≡ c2 → d ≡ d2 → n ≡ n2 → p ≡ p2 → r ≡ r2 → _≡_ {A = CheckedGraph} (record { signals = a; constants = b; vertices = c; edges = d; names = n; points = p; arcs = r }) (record { signals = a2; constants = b2; vertices = c2; edges = d2; names = n2; points = p2; arcs = r2 })
-graph-is q r s t u v w = rw (q, r, s, t, u, v, w)
+graph-is : {m m2 : Mode} {a a2 b b2 c c2 d d2 : ℕ} {n n2 p p2 : List ℕ} {r r2 : List Arc} → m ≡ m2 → a ≡ a2 → b ≡ b2 → c ≡ c2 → d ≡ d2 → n ≡ n2 → p ≡ p2 → r ≡ r2 → _≡_ {A = CheckedGraph} (record { mode = m; signals = a; constants = b; vertices = c; edges = d; names = n; points = p; arcs = r }) (record { mode = m2; signals = a2; constants = b2; vertices = c2; edges = d2; names = n2; points = p2; arcs = r2 })
+graph-is m q r s t u v w = rw (m, q, r, s, t, u, v, w)
 
 -- ---- what the arrays hold
 module _ (text : Bytes) (g : CheckedGraph) (graph : Graph) (h : Holds text g graph) where
+  abbrev first : ℕ
+  first = modeLines (graph .mode)
+
+  mode-is : g .mode ≡ graph .mode
+  unfolding heldAs
+  mode-is = ap (λ (x : CheckedGraph). x .mode) (h .arrays)
+
   pub signals-are : g .signals ≡ length (graph .signals)
-  unfolding heldOf
+  unfolding heldAs
   signals-are = ap (λ (x : CheckedGraph). x .signals) (h .arrays)
 
   pub constants-are : g .constants ≡ length (graph .constants)
-  unfolding heldOf
+  unfolding heldAs
   constants-are = ap (λ (x : CheckedGraph). x .constants) (h .arrays)
 
   pub vertices-are : g .vertices ≡ length (graph .vertices)
-  unfolding heldOf
+  unfolding heldAs
   vertices-are = ap (λ (x : CheckedGraph). x .vertices) (h .arrays)
 
   pub edges-are : g .edges ≡ length (graph .edges)
-  unfolding heldOf
+  unfolding heldAs
   edges-are = ap (λ (x : CheckedGraph). x .edges) (h .arrays)
 
-  name-places : g .names ≡ filled 69 0 (namePlaces text 0 (namedOf graph))
-  unfolding heldOf
+  name-places : g .names ≡ filled 69 0 (namePlaces text first (namedOf graph))
+  unfolding heldAs
   name-places = ap (λ (x : CheckedGraph). x .names) (h .arrays)
 
-  point-places : g .points ≡ filled 64 0 (namePlaces text (namedOf graph) (length (graph .vertices)))
-  unfolding heldOf
+  point-places : g .points ≡ filled 64 0 (namePlaces text (first + namedOf graph) (length (graph .vertices)))
+  unfolding heldAs
   point-places = ap (λ (x : CheckedGraph). x .points) (h .arrays)
 
-  arc-places : g .arcs ≡ filled 128 noArc (arcsOf text (namedOf graph + length (graph .vertices)) (graph .edges))
-  unfolding heldOf
+  arc-places : g .arcs ≡ filled 128 noArc (arcsOf (λ e. e .marked) text (first + namedOf graph + length (graph .vertices)) (graph .edges))
+  unfolding heldAs
   arc-places = ap (λ (x : CheckedGraph). x .arcs) (h .arrays)
 
   named-is : g .signals + g .constants ≡ namedOf graph
   named-is = rw (signals-are, constants-are)
 
   names-are : held text (take (g .signals + g .constants) (g .names)) ≡ namesOf graph
-  names-are = rw (name-places, named-is, places-first text 69 0 (namedOf graph)) (h .names)
+  names-are = rw (name-places, named-is, places-first text 69 first (namedOf graph)) (h .names)
 
   points-are : held text (take (g .vertices) (g .points)) ≡ graph .vertices
-  points-are = rw (point-places, vertices-are, places-first text 64 (namedOf graph) (length (graph .vertices))) (h .points)
+  points-are = rw (point-places, vertices-are, places-first text 64 (first + namedOf graph) (length (graph .vertices))) (h .points)
 
   -- a name looked up
   module _ (n : Bytes) {x : Found} {own : Bytes} (o : own ≡ n) where
@@ -131,6 +141,27 @@ module _ (text : Bytes) (g : CheckedGraph) (graph : Graph) (h : Holds text g gra
 
     point-found : x ≡ lookUp own (held text (take (g .vertices) (g .points))) → lookUp n (graph .vertices) ≡ x
     point-found e = rw (← points-are, ← o) (sym e)
+
+  -- ---- the mode
+  lines-are : {n : ℕ} → n ≡ modeLines (g .mode) → modeLines (graph .mode) + length (graph .signals) + length (graph .constants) + length (graph .vertices) + length (graph .edges) ≡ n + g .signals + g .constants + g .vertices + g .edges
+  lines-are e = rw (e, mode-is, signals-are, constants-are, vertices-are, edges-are)
+
+  module _ (m : Mode) {n : ℕ} (e : n ≡ modeLines (g .mode)) where
+    pub mode-late : 0 < n + g .signals + g .constants + g .vertices + g .edges → faultyOf g WrongOrder ≡ addedOf text g (addMode graph m)
+    unfolding addedOf addMode
+    mode-late l = rw (lines-are e, lt-ltb 0 (n + g .signals + g .constants + g .vertices + g .edges) l)
+
+    plus-mode : n + g .signals + g .constants + g .vertices + g .edges ≤ 0 → withMode g m ≡ writtenOf text (record { mode = m; signals = graph .signals; constants = graph .constants; vertices = graph .vertices; edges = graph .edges })
+    unfolding heldAs namePlaces arcsOf
+    plus-mode l =
+        let c0 : namedOf graph ≡ 0 = omega (arith, signals-are, constants-are) in
+        let v0 : length (graph .vertices) ≡ 0 = omega (arith, vertices-are) in
+        let e0 : graph .edges ≡ [] = none-list (graph .edges) (omega (arith, edges-are)) in
+        graph-is refl signals-are constants-are vertices-are edges-are (name-places ∙ rw c0) (point-places ∙ rw v0) (arc-places ∙ rw e0)
+
+    pub mode-new : n + g .signals + g .constants + g .vertices + g .edges ≤ 0 → _≡_ {A = Added} (record { judged = Fine; graph = withMode g m }) (addedOf text g (addMode graph m))
+    unfolding addedOf addMode
+    mode-new l = rw (plus-mode l, lines-are e, le-ltb 0 (n + g .signals + g .constants + g .vertices + g .edges) l)
 
   -- ---- signals
   module _ (n : Bytes) where
@@ -149,17 +180,17 @@ module _ (text : Bytes) (g : CheckedGraph) (graph : Graph) (h : Holds text g gra
         signal-again k = rw (← constants-are, ← vertices-are, ← edges-are, le-ltb 0 (g .constants + g .vertices + g .edges) l, ← signals-are, lt-leb 63 (g .signals) m, named-found n o e, k)
 
         module _ (p : ℕ) (q : p ≡ fieldAt text (recordsOf graph) 1) where
-          plus-signal : withSignal g p ≡ heldOf text (record { signals = graph .signals ++ (n ∷ []); constants = graph .constants; vertices = graph .vertices; edges = graph .edges })
-          unfolding heldOf namePlaces arcsOf
+          plus-signal : withSignal g p ≡ writtenOf text (record { mode = graph .mode; signals = graph .signals ++ (n ∷ []); constants = graph .constants; vertices = graph .vertices; edges = graph .edges })
+          unfolding heldAs namePlaces arcsOf
           plus-signal =
               let c0 : length (graph .constants) ≡ 0 = omega (arith, constants-are) in
               let v0 : length (graph .vertices) ≡ 0 = omega (arith, vertices-are) in
               let e0 : graph .edges ≡ [] = none-list (graph .edges) (omega (arith, edges-are)) in
               let c1 : length (graph .signals ++ (n ∷ [])) + length (graph .constants) ≡ namedOf graph + 1 = omega (arith, one-more (graph .signals) n) in
               let s1 : g .signals ≡ namedOf graph = omega (arith, signals-are) in
-              let r1 : recordsOf graph ≡ 0 + namedOf graph = omega (arith, ap length e0) in
-              graph-is (omega (arith, signals-are, one-more (graph .signals) n)) constants-are vertices-are edges-are
-              (rw (name-places, s1, q, r1, c1) (places-push text 69 0 (namedOf graph) (omega arith)))
+              let r1 : recordsOf graph ≡ first + namedOf graph = omega (arith, ap length e0) in
+              graph-is mode-is (omega (arith, signals-are, one-more (graph .signals) n)) constants-are vertices-are edges-are
+              (rw (name-places, s1, q, r1, c1) (places-push text 69 first (namedOf graph) (omega arith)))
               (point-places ∙ rw v0)
               (arc-places ∙ rw e0)
 
@@ -184,15 +215,15 @@ module _ (text : Bytes) (g : CheckedGraph) (graph : Graph) (h : Holds text g gra
         constant-again k = rw (← vertices-are, ← edges-are, le-ltb 0 (g .vertices + g .edges) l, ← constants-are, lt-leb 6 (g .constants) m, named-found n o e, k)
 
         module _ (s : g .signals ≤ 63) (p : ℕ) (q : p ≡ fieldAt text (recordsOf graph) 1) where
-          plus-constant : withConstant g p ≡ heldOf text (record { signals = graph .signals; constants = graph .constants ++ (n ∷ []); vertices = graph .vertices; edges = graph .edges })
-          unfolding heldOf namePlaces arcsOf
+          plus-constant : withConstant g p ≡ writtenOf text (record { mode = graph .mode; signals = graph .signals; constants = graph .constants ++ (n ∷ []); vertices = graph .vertices; edges = graph .edges })
+          unfolding heldAs namePlaces arcsOf
           plus-constant =
               let v0 : length (graph .vertices) ≡ 0 = omega (arith, vertices-are) in
               let e0 : graph .edges ≡ [] = none-list (graph .edges) (omega (arith, edges-are)) in
               let c1 : length (graph .signals) + length (graph .constants ++ (n ∷ [])) ≡ namedOf graph + 1 = omega (arith, one-more (graph .constants) n) in
-              let r1 : recordsOf graph ≡ 0 + namedOf graph = omega (arith, ap length e0) in
-              graph-is signals-are (omega (arith, constants-are, one-more (graph .constants) n)) vertices-are edges-are
-              (rw (name-places, named-is, q, r1, c1) (places-push text 69 0 (namedOf graph) (omega (arith, named-is))))
+              let r1 : recordsOf graph ≡ first + namedOf graph = omega (arith, ap length e0) in
+              graph-is mode-is signals-are (omega (arith, constants-are, one-more (graph .constants) n)) vertices-are edges-are
+              (rw (name-places, named-is, q, r1, c1) (places-push text 69 first (namedOf graph) (omega (arith, named-is))))
               (point-places ∙ rw v0)
               (arc-places ∙ rw e0)
 
@@ -217,13 +248,13 @@ module _ (text : Bytes) (g : CheckedGraph) (graph : Graph) (h : Holds text g gra
         vertex-again k = rw (← edges-are, le-ltb 0 (g .edges) l, ← vertices-are, lt-leb 64 (g .vertices) m, point-found n o e, k)
 
         module _ (p : ℕ) (q : p ≡ fieldAt text (recordsOf graph) 1) where
-          plus-vertex : withVertex g p ≡ heldOf text (record { signals = graph .signals; constants = graph .constants; vertices = graph .vertices ++ (n ∷ []); edges = graph .edges })
-          unfolding heldOf namePlaces arcsOf
+          plus-vertex : withVertex g p ≡ writtenOf text (record { mode = graph .mode; signals = graph .signals; constants = graph .constants; vertices = graph .vertices ++ (n ∷ []); edges = graph .edges })
+          unfolding heldAs namePlaces arcsOf
           plus-vertex =
               let e0 : graph .edges ≡ [] = none-list (graph .edges) (omega (arith, edges-are)) in
-              let r1 : recordsOf graph ≡ namedOf graph + length (graph .vertices) = omega (arith, ap length e0) in
-              graph-is signals-are constants-are (omega (arith, vertices-are, one-more (graph .vertices) n)) edges-are name-places
-              (rw (point-places, vertices-are, q, r1, one-more (graph .vertices) n) (places-push text 64 (namedOf graph) (length (graph .vertices)) (omega (arith, vertices-are))))
+              let r1 : recordsOf graph ≡ first + namedOf graph + length (graph .vertices) = omega (arith, ap length e0) in
+              graph-is mode-is signals-are constants-are (omega (arith, vertices-are, one-more (graph .vertices) n)) edges-are name-places
+              (rw (point-places, vertices-are, q, r1, one-more (graph .vertices) n) (places-push text 64 (first + namedOf graph) (length (graph .vertices)) (omega (arith, vertices-are))))
               (arc-places ∙ rw e0)
 
           pub vertex-new : x .known ≡ false → _≡_ {A = Added} (record { judged = Fine; graph = withVertex g p }) (addedOf text g (addVertex graph n))
@@ -242,24 +273,24 @@ module _ (text : Bytes) (g : CheckedGraph) (graph : Graph) (h : Holds text g gra
     unfolding addedOf judgeEdge unlessFaulty
     edge-fault k = rw (both, k)
 
-  same-arc : (e : Arc) → ArcAt text (recordsOf graph) e → (a c : Bytes) → e ≡ arcOf text (recordsOf graph) (edgeOf graph (e .from) (e .to) (e .marked) a c)
+  same-arc : (e : Arc) → ArcAt text (recordsOf graph) e → (a c : Bytes) → e ≡ arcOf text (recordsOf graph) (e .terminal) (edgeOf graph (e .from) (e .to) (e .terminal) a c)
   unfolding arcOf edgeOf
   same-arc e w a c = rw (← w .left, ← w .lefts, ← w .right, ← w .rights)
 
-  plus : (e : Arc) → ArcAt text (recordsOf graph) e → g .edges < 128 → (a c : Bytes) → withEdge g e ≡ heldOf text (record { signals = graph .signals; constants = graph .constants; vertices = graph .vertices; edges = graph .edges ++ (edgeOf graph (e .from) (e .to) (e .marked) a c ∷ []) })
-  unfolding heldOf arcOf edgeOf
+  plus : (e : Arc) → ArcAt text (recordsOf graph) e → g .edges < 128 → (a c : Bytes) → withEdge g e ≡ writtenOf text (record { mode = graph .mode; signals = graph .signals; constants = graph .constants; vertices = graph .vertices; edges = graph .edges ++ (edgeOf graph (e .from) (e .to) (e .terminal) a c ∷ []) })
+  unfolding heldAs arcOf edgeOf
   plus e w l a c =
-      graph-is signals-are constants-are vertices-are (omega (arith, edges-are, one-more (graph .edges) (edgeOf graph (e .from) (e .to) (e .marked) a c))) name-places point-places
-      (rw (arc-places, edges-are, arc-is) (arcs-push text (namedOf graph + length (graph .vertices)) (graph .edges) (edgeOf graph (e .from) (e .to) (e .marked) a c) (omega (arith, edges-are))))
+      graph-is mode-is signals-are constants-are vertices-are (omega (arith, edges-are, one-more (graph .edges) (edgeOf graph (e .from) (e .to) (e .terminal) a c))) name-places point-places
+      (rw (arc-places, edges-are, arc-is) (arcs-push (λ e. e .marked) text (first + namedOf graph + length (graph .vertices)) (graph .edges) (edgeOf graph (e .from) (e .to) (e .terminal) a c) (omega (arith, edges-are))))
     where
-      arc-is : e ≡ arcOf text (recordsOf graph) (edgeOf graph (e .from) (e .to) (e .marked) a c)
+      arc-is : e ≡ arcOf text (recordsOf graph) (e .terminal) (edgeOf graph (e .from) (e .to) (e .terminal) a c)
       arc-is = same-arc e w a c
 
-  pub edge-new : (e : Arc) → ArcAt text (recordsOf graph) e → g .edges < 128 → (a c : Bytes) {x : Judged} → x ≡ lower (judgedFormula listed a) (judgedFormula listed c) → x ≡ Fine → _≡_ {A = Added} (record { judged = Fine; graph = withEdge g e }) (addedOf text g (judgeEdge graph (e .from) (e .to) (e .marked) a c))
+  pub edge-new : (e : Arc) → ArcAt text (recordsOf graph) e → g .edges < 128 → (a c : Bytes) {x : Judged} → x ≡ lower (judgedFormula listed a) (judgedFormula listed c) → x ≡ Fine → _≡_ {A = Added} (record { judged = Fine; graph = withEdge g e }) (addedOf text g (judgeEdge graph (e .from) (e .to) (e .terminal) a c))
   unfolding addedOf judgeEdge unlessFaulty
-  edge-new e w l a c {x} j k = rw (plus-edge, both (e .from) (e .to) (e .marked) a c j, k)
+  edge-new e w l a c {x} j k = rw (plus-edge, both (e .from) (e .to) (e .terminal) a c j, k)
     where
-      plus-edge : withEdge g e ≡ heldOf text (record { signals = graph .signals; constants = graph .constants; vertices = graph .vertices; edges = graph .edges ++ (edgeOf graph (e .from) (e .to) (e .marked) a c ∷ []) })
+      plus-edge : withEdge g e ≡ writtenOf text (record { mode = graph .mode; signals = graph .signals; constants = graph .constants; vertices = graph .vertices; edges = graph .edges ++ (edgeOf graph (e .from) (e .to) (e .terminal) a c ∷ []) })
       plus-edge = plus e w l a c
 
   module _ (from to : Bytes) (marked : Bool) (a c : Bytes) where

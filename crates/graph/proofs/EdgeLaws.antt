@@ -55,5 +55,5 @@ module _ (text line : Bytes) (n at a c : ℕ) (h : EdgeAt text line n at a c) {e
   field-is : (p : ℕ) → take (endAt 9 line p - p) (drop (at + p) text) ≡ pieceAt 9 line p
   field-is p = rw (long p, h .start, h .bytes) (field-in text n p)
 
-  pub edge-judged : (graph : Graph) → judgeEdge graph (e .from) (e .to) (e .marked) (take (e .lefts) (drop (e .left) text)) (take (e .rights) (drop (e .right) text)) ≡ judgeEdge graph from to marked (pieceAt 9 line a) (pieceAt 9 line c)
+  pub edge-judged : (graph : Graph) → judgeEdge graph (e .from) (e .to) (e .terminal) (take (e .lefts) (drop (e .left) text)) (take (e .rights) (drop (e .right) text)) ≡ judgeEdge graph from to marked (pieceAt 9 line a) (pieceAt 9 line c)
   edge-judged graph = rw (w, field-is a, field-is c)

@@ -1,13 +1,17 @@
 -- Worked examples: texts and what they are. Byte 9 is a tab, 10 is LF. Assumes nothing.
 use mathlib.Core.Path.{_≡_, refl}
-use mathlib.Core.Bool.{true}
+use Prim.Native.Nat.{ℕ, _+_}
+use mathlib.Core.Bool.{Bool, true, false}
 use mathlib.Core.List.{[], _∷_, _++_}
 use lib.ListN.{replicate}
+use Rattle.text.specs.Quoted.{bytes}
 use Rattle.formula.specs.Classes.{classOf, isLetter, isWordClass, strengthOf, startOf, run, nameBytes, isName}
 use Rattle.formula.specs.Grammar.{andThen, nameOf, closed, operandOf, expressionOf, restOf, whole, treeOf, depthOf}
-use Rattle.assertion.specs.Graph.{Bytes, Graph, signal}
+use Rattle.assertion.specs.Graph.{Bytes, Graph, signal, isTerminal}
+use Rattle.assertion.specs.declared.Mode.{Mode}
+use Rattle.assertion.specs.declared.Mode.the-variants.{Unsaid, Terminal, Strong}
 use Rattle.graph.specs.Pieces.{onto, split, upTo, endAt, pieceAt, same, placeOf, lookUp}
-use Rattle.graph.specs.Records.{named, marked, edged, ofFields, recordOf}
+use Rattle.graph.specs.Records.{moded, named, marked, edged, ofFields, recordOf}
 use Rattle.graph.specs.Reading.{
   faultNumber,
   known,
@@ -17,6 +21,8 @@ use Rattle.graph.specs.Reading.{
   judgedTree,
   treeExpr,
   lower,
+  modeLines,
+  addMode,
   addSignal,
   addConstant,
   addVertex,
@@ -31,8 +37,9 @@ use Rattle.graph.specs.Reading.{
   readLines,
   graphOf,
 }
-use Rattle.graph.specs.Held.{lineStart, lineOf, fieldStart, fieldLength, fieldAt, namePlaces, arcOf, arcsOf, noArc, filled, heldOf}
+use Rattle.graph.specs.Held.{lineStart, lineOf, fieldStart, fieldLength, fieldAt, namePlaces, arcOf, arcsOf, noArc, filled, heldAs, heldOf, answerOf, readOf}
 use Rattle.graph.specs.declared.Fault.the-variants.{WrongShape, WrongOrder, NameRepeated, UnknownVertex, NotFormula, TooDeep, UnknownName}
+use Rattle.graph.specs.declared.ReadOutcome.the-variants.{Checked}
 use Rattle.graph.specs.declared.Cause.the-variants.{FaultyLine, NoVertex}
 use Rattle.graph.specs.declared.CheckedGraph.{CheckedGraph}
 
@@ -55,38 +62,78 @@ Va = 86 ∷ 9 ∷ 97 ∷ 10 ∷ []
 abbrev Vb : Bytes
 Vb = 86 ∷ 9 ∷ 98 ∷ 10 ∷ []
 
--- `E a b t` with two formulas
+-- `E a b` with a mark and two formulas
+abbrev Emark : ℕ → Bytes → Bytes → Bytes
+Emark m x y = (69 ∷ 9 ∷ 97 ∷ 9 ∷ 98 ∷ 9 ∷ m ∷ 9 ∷ x) ++ ((9 ∷ y) ++ (10 ∷ []))
+
 abbrev Eab : Bytes → Bytes → Bytes
-Eab x y = (69 ∷ 9 ∷ 97 ∷ 9 ∷ 98 ∷ 9 ∷ 116 ∷ 9 ∷ x) ++ ((9 ∷ y) ++ (10 ∷ []))
+Eab = Emark 116
 
--- graph G: `S p`, `S q`, `V a`, `V b`, `E a b t p q`
+-- `M` and a word
+abbrev Mline : Bytes → Bytes
+Mline w = (77 ∷ 9 ∷ w) ++ (10 ∷ [])
+
+-- graph G with a mark for its edge: `S p`, `S q`, `V a`, `V b`, `E a b t p q`
+abbrev textWith : ℕ → Bytes
+textWith m = Sp ++ ((83 ∷ 9 ∷ 113 ∷ 10 ∷ []) ++ (Va ++ (Vb ++ Emark m p q)))
+
 abbrev textG : Bytes
-textG = Sp ++ ((83 ∷ 9 ∷ 113 ∷ 10 ∷ []) ++ (Va ++ (Vb ++ Eab p q)))
+textG = textWith 116
 
-abbrev G : Graph
-G =
+-- G with a mode and a mark
+abbrev graphWith : Mode → Bool → Graph
+graphWith mode mark =
     record {
+      mode = mode;
       signals = p ∷ q ∷ [];
       constants = [];
       vertices = (97 ∷ []) ∷ (98 ∷ []) ∷ [];
-      edges = record { from = 0; to = 1; marked = true; antecedent = signal 0; consequent = signal 1; antecedentText = p; consequentText = q } ∷ [];
+      edges = record { from = 0; to = 1; marked = mark; antecedent = signal 0; consequent = signal 1; antecedentText = p; consequentText = q } ∷ [];
     }
 
-abbrev heldG : CheckedGraph
-heldG =
+-- its arrays: the first name after n bytes, and whether its edge is terminal
+abbrev heldWith : Mode → ℕ → Bool → CheckedGraph
+heldWith mode n t =
     record {
+      mode = mode;
       signals = 2;
       constants = 0;
       vertices = 2;
       edges = 1;
-      names = 2 ∷ 6 ∷ replicate 67 0;
-      points = 10 ∷ 14 ∷ replicate 62 0;
-      arcs = record { from = 0; to = 1; marked = true; left = 24; lefts = 1; right = 26; rights = 1 } ∷ replicate 127 noArc;
+      names = (n + 2) ∷ (n + 6) ∷ replicate 67 0;
+      points = (n + 10) ∷ (n + 14) ∷ replicate 62 0;
+      arcs = record { from = 0; to = 1; terminal = t; left = n + 24; lefts = 1; right = n + 26; rights = 1 } ∷ replicate 127 noArc;
     }
 
 record Examples : Type 0 where
-  graph-g : graphOf textG ≡ accepted G
-  held-g : heldOf textG G ≡ heldG
+  graph-g : graphOf textG ≡ accepted (graphWith Unsaid true)
+  held-g : readOf textG ≡ record { outcome = Checked; graph = heldWith Unsaid 0 true }
+  -- G with `-` for `t`: its edge is terminal, but not after `M terminal`
+  unmarked : readOf (textWith 45) ≡ record { outcome = Checked; graph = heldWith Unsaid 0 true }
+  terminal : readOf (Mline (bytes "terminal") ++ textWith 45) ≡ record { outcome = Checked; graph = heldWith Terminal 11 false }
+  strong : readOf (Mline (bytes "strong") ++ textWith 45) ≡ record { outcome = Checked; graph = heldWith Strong 9 true }
+  -- an `M` line is no vertex
+  mode-alone : graphOf (Mline (bytes "terminal")) ≡ refused NoVertex
+  -- another word; no word; a third field; no LF; another letter
+  mode-weak : graphOf (Mline (bytes "weak") ++ Va) ≡ refused (FaultyLine WrongShape 1)
+  mode-capital : graphOf (Mline (bytes "Strong") ++ Va) ≡ refused (FaultyLine WrongShape 1)
+  mode-bare : graphOf (77 ∷ 10 ∷ []) ≡ refused (FaultyLine WrongShape 1)
+  mode-empty : graphOf (Mline [] ++ Va) ≡ refused (FaultyLine WrongShape 1)
+  mode-third : graphOf (Mline (bytes "terminal\tx") ++ Va) ≡ refused (FaultyLine WrongShape 1)
+  mode-no-lf : graphOf (bytes "M\tstrong") ≡ refused (FaultyLine WrongShape 1)
+  mode-small : graphOf (bytes "m\tstrong\n" ++ Va) ≡ refused (FaultyLine WrongShape 1)
+  -- an `M` line after a record, after another, and a wrong one
+  mode-late : graphOf (Va ++ Mline (bytes "strong")) ≡ refused (FaultyLine WrongOrder 2)
+  mode-later : graphOf (Va ++ (Vb ++ (Emark 45 (49 ∷ []) (48 ∷ []) ++ Mline (bytes "terminal")))) ≡ refused (FaultyLine WrongOrder 4)
+  mode-between : graphOf (Sp ++ (Mline (bytes "terminal") ++ Va)) ≡ refused (FaultyLine WrongOrder 2)
+  mode-twice : graphOf (Mline (bytes "terminal") ++ (Mline (bytes "terminal") ++ Va)) ≡ refused (FaultyLine WrongOrder 2)
+  mode-then-weak : graphOf (Mline (bytes "terminal") ++ (Mline (bytes "weak") ++ Va)) ≡ refused (FaultyLine WrongShape 2)
+  mode-late-weak : graphOf (Va ++ Mline (bytes "weak")) ≡ refused (FaultyLine WrongShape 2)
+  -- the other records as before, lines counted with it
+  mode-order : graphOf (Mline (bytes "terminal") ++ (Va ++ Sp)) ≡ refused (FaultyLine WrongOrder 3)
+  mode-constant : graphOf (Mline (bytes "terminal") ++ (Kp ++ (Sp ++ Va))) ≡ refused (FaultyLine WrongOrder 3)
+  mode-repeated : graphOf (Mline (bytes "strong") ++ (Va ++ Va)) ≡ refused (FaultyLine NameRepeated 3)
+  mode-unknown : graphOf (Mline (bytes "strong") ++ Emark 116 (49 ∷ []) (49 ∷ [])) ≡ refused (FaultyLine UnknownVertex 2)
   no-line : graphOf [] ≡ refused NoVertex
   no-vertex : graphOf Sp ≡ refused NoVertex
   -- a last line without LF
@@ -104,11 +151,32 @@ record Examples : Type 0 where
   unknown-name : graphOf (Va ++ (Vb ++ Eab (49 ∷ []) p)) ≡ refused (FaultyLine UnknownName 3)
 
 examples : Examples
-unfolding classOf isLetter isWordClass strengthOf startOf run nameBytes isName andThen nameOf closed operandOf expressionOf restOf whole treeOf depthOf onto split upTo endAt pieceAt same placeOf lookUp named marked edged ofFields recordOf faultNumber known joined symbol resolved judgedTree treeExpr lower addSignal addConstant addVertex edgeOf unlessFaulty judgeEdge addEdge add finished readLines graphOf lineStart lineOf fieldStart fieldLength fieldAt namePlaces arcOf arcsOf filled heldOf
+unfolding classOf isLetter isWordClass strengthOf startOf run nameBytes isName andThen nameOf closed operandOf expressionOf restOf whole treeOf depthOf onto split upTo endAt pieceAt same placeOf lookUp moded named marked edged ofFields recordOf faultNumber known joined symbol resolved judgedTree treeExpr lower modeLines addMode addSignal addConstant addVertex edgeOf unlessFaulty judgeEdge addEdge add finished readLines graphOf lineStart lineOf fieldStart fieldLength fieldAt namePlaces arcOf arcsOf filled heldAs heldOf answerOf readOf isTerminal
 examples =
     record {
       graph-g = refl;
       held-g = refl;
+      unmarked = refl;
+      terminal = refl;
+      strong = refl;
+      mode-alone = refl;
+      mode-weak = refl;
+      mode-capital = refl;
+      mode-bare = refl;
+      mode-empty = refl;
+      mode-third = refl;
+      mode-no-lf = refl;
+      mode-small = refl;
+      mode-late = refl;
+      mode-later = refl;
+      mode-between = refl;
+      mode-twice = refl;
+      mode-then-weak = refl;
+      mode-late-weak = refl;
+      mode-order = refl;
+      mode-constant = refl;
+      mode-repeated = refl;
+      mode-unknown = refl;
       no-line = refl;
       no-vertex = refl;
       no-lf = refl;

@@ -8,9 +8,12 @@ use native.Mathlib.Decide.{decLt}
 use lib.ListN.{length, take, drop}
 use lib.Seq.{length-take-le}
 use Rattle.formula.specs.Classes.{pick, isName}
+use Rattle.text.specs.Quoted.{bytes}
 use Rattle.assertion.specs.Graph.{Bytes}
+use Rattle.assertion.specs.declared.Mode.the-variants.{Terminal, Strong}
 use Rattle.graph.specs.Pieces.{split, upTo, endAt, pieceAt, same}
-use Rattle.graph.specs.Records.{Record, shapeless, signal, constant, vertex, edge, named, marked, edged, ofFields, recordOf}
+use Rattle.graph.specs.Records.{Record, shapeless, mode, signal, constant, vertex, edge, moded, named, marked, edged, ofFields, recordOf}
+use Rattle.graph.specs.Reading.{modeLines}
 use Rattle.graph.specs.Claims.{FormulaAt}
 use Rattle.graph.specs.Held.{lineStart, lineOf, fieldStart, fieldAt, fieldLength}
 use Rattle.graph.proofs.PieceLaws.{split-cut, split-last, split-some, piece-in, piece-last}
@@ -47,6 +50,7 @@ field-zero line = refl
 -- ---- a record whose fields stand in line k of a text
 abbrev pub Fits : Bytes → ℕ → Record → Type 0
 Fits text k shapeless = Unit {0}
+Fits text k (mode m) = modeLines m ≡ 1
 Fits text k (signal n) = pieceAt 10 text (fieldAt text k 1) ≡ n
 Fits text k (constant n) = pieceAt 10 text (fieldAt text k 1) ≡ n
 Fits text k (vertex n) = pieceAt 10 text (fieldAt text k 1) ≡ n
@@ -59,10 +63,11 @@ module _ (text : Bytes) (k : ℕ) where
   pick-fits false x y h g = g
 
   named-fits : (kind n : Bytes) → pieceAt 10 text (fieldAt text k 1) ≡ n → Fits text k (named kind n)
-  unfolding named
+  unfolding named moded modeLines
   named-fits kind n h =
-      pick-fits (isName n) _ shapeless
-      (pick-fits (same kind (83 ∷ [])) (signal n) _ h (pick-fits (same kind (75 ∷ [])) (constant n) _ h (pick-fits (same kind (86 ∷ [])) (vertex n) shapeless h tt))) tt
+      pick-fits (same kind (77 ∷ [])) _ _ (pick-fits (same n (bytes "terminal")) (mode Terminal) _ refl (pick-fits (same n (bytes "strong")) (mode Strong) shapeless refl tt))
+      (pick-fits (isName n) _ shapeless
+      (pick-fits (same kind (83 ∷ [])) (signal n) _ h (pick-fits (same kind (75 ∷ [])) (constant n) _ h (pick-fits (same kind (86 ∷ [])) (vertex n) shapeless h tt))) tt)
 
   edged-fits : (kind f t m a c : Bytes) → Fits text k (edge f t true a c) → Fits text k (edged kind f t m a c)
   unfolding edged marked

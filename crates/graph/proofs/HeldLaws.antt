@@ -13,10 +13,14 @@ use lib.ListN.{length, getD, take, drop, replicate, length-take, length-drop, le
 use Rattle.formula.specs.Classes.{pick}
 use Rattle.formula.specs.Grammar.{Tree, Parsed, none, tree, treeOf, depthOf}
 use Rattle.formula.proofs.PostfixLaws.{words-some, words-fit}
-use Rattle.assertion.specs.Graph.{Bytes, Expr, Edge, Graph}
+use Rattle.assertion.specs.Graph.{Bytes, Expr, Edge, Graph, isTerminal}
+use Rattle.assertion.specs.declared.Mode.{Mode}
+use Rattle.assertion.specs.declared.Mode.the-variants.{Unsaid, Terminal, Strong}
 use Rattle.graph.specs.Pieces.{split, pieceAt, lookUp}
-use Rattle.graph.specs.Records.{Record, shapeless, signal, constant, vertex, edge, recordOf}
+use Rattle.graph.specs.Records.{Record, shapeless, mode, signal, constant, vertex, edge, recordOf}
 use Rattle.graph.specs.Reading.{
+  modeLines,
+  addMode,
   known,
   resolved,
   judgedTree,
@@ -42,7 +46,7 @@ use Rattle.graph.specs.Reading.{
   nothing,
   graphOf,
 }
-use Rattle.graph.specs.Held.{lineStart, lineOf, fieldAt, namePlaces, arcOf, arcsOf, noArc, filled, heldOf}
+use Rattle.graph.specs.Held.{lineStart, lineOf, fieldAt, namePlaces, arcOf, arcsOf, noArc, filled, heldAs, heldOf}
 use Rattle.graph.specs.Private.Steps.{held, namedOf, recordsOf}
 use Rattle.graph.specs.declared.Fault.{Fault}
 use Rattle.graph.specs.declared.Cause.the-variants.{TextTooLong, FaultyLine, NoVertex}
@@ -54,10 +58,10 @@ use Rattle.graph.proofs.FieldLaws.{Fits, line-fits, two-left}
 use Rattle.graph.proofs.ArrayLaws.{filled-length, places-length, places-more, places-first, none-list, one-more, arcs-length}
 
 -- ---- what is claimed
--- edges whose first is line n
+-- edges whose first is line n, terminal or not
 abbrev pub EdgesSound : Bytes → List Bytes → List Bytes → List Bytes → ℕ → List Edge → Type 0
 EdgesSound text ss cs vs n [] = Unit {0}
-EdgesSound text ss cs vs n (e ∷ es) = EdgeSound text ss cs vs (arcOf text n e) e × EdgesSound text ss cs vs (n + 1) es
+EdgesSound text ss cs vs n (e ∷ es) = ((t : Bool) → EdgeSound text ss cs vs t (arcOf text n t e) e) × EdgesSound text ss cs vs (n + 1) es
 
 -- the graph of the lines read so far
 pub record Grown (text : Bytes) (graph : Graph) : Type 0 where
@@ -65,9 +69,9 @@ pub record Grown (text : Bytes) (graph : Graph) : Type 0 where
   pub constants-few : length (graph .constants) ≤ 6
   pub vertices-few : length (graph .vertices) ≤ 64
   pub edges-few : length (graph .edges) ≤ 128
-  pub names : held text (namePlaces text 0 (namedOf graph)) ≡ namesOf graph
-  pub points : held text (namePlaces text (namedOf graph) (length (graph .vertices))) ≡ graph .vertices
-  pub edges : EdgesSound text (graph .signals) (graph .constants) (graph .vertices) (namedOf graph + length (graph .vertices)) (graph .edges)
+  pub names : held text (namePlaces text (modeLines (graph .mode)) (namedOf graph)) ≡ namesOf graph
+  pub points : held text (namePlaces text (modeLines (graph .mode) + namedOf graph) (length (graph .vertices))) ≡ graph .vertices
+  pub edges : EdgesSound text (graph .signals) (graph .constants) (graph .vertices) (modeLines (graph .mode) + namedOf graph + length (graph .vertices)) (graph .edges)
 
 -- ---- tests that went through
 pick-fault : (t : Bool) (f : Fault) (x : Step) {graph : Graph} → pick t (fault f) x ≡ went graph → (t ≡ false) × (x ≡ went graph)
@@ -117,7 +121,7 @@ held-none : (text : Bytes) (n : ℕ) → held text (namePlaces text n 0) ≡ []
 unfolding namePlaces
 held-none text n = refl
 
-edges-more : (text : Bytes) (ss cs vs : List Bytes) (n : ℕ) (es : List Edge) (e : Edge) → EdgesSound text ss cs vs n es → EdgeSound text ss cs vs (arcOf text (n + length es) e) e → EdgesSound text ss cs vs n (es ++ (e ∷ []))
+edges-more : (text : Bytes) (ss cs vs : List Bytes) (n : ℕ) (es : List Edge) (e : Edge) → EdgesSound text ss cs vs n es → ((t : Bool) → EdgeSound text ss cs vs t (arcOf text (n + length es) t e) e) → EdgesSound text ss cs vs n (es ++ (e ∷ []))
 edges-more text ss cs vs n [] e h k = (rw (add-zero n) at k, tt)
 edges-more text ss cs vs n (x ∷ es) e h k =
     let z : n + suc (length es) ≡ n + 1 + length es = omega arith in
@@ -134,17 +138,20 @@ pub record OneMore (text : Bytes) (n : ℕ) (graph : Graph) : Type 0 where
   pub grown : Grown text graph
   pub count : recordsOf graph ≡ n + 1
 
+abbrev plusMode : Graph → Mode → Graph
+plusMode graph m = record { mode = m; signals = graph .signals; constants = graph .constants; vertices = graph .vertices; edges = graph .edges }
+
 abbrev plusSignal : Graph → Bytes → Graph
-plusSignal graph n = record { signals = graph .signals ++ (n ∷ []); constants = graph .constants; vertices = graph .vertices; edges = graph .edges }
+plusSignal graph n = record { mode = graph .mode; signals = graph .signals ++ (n ∷ []); constants = graph .constants; vertices = graph .vertices; edges = graph .edges }
 
 abbrev plusConstant : Graph → Bytes → Graph
-plusConstant graph n = record { signals = graph .signals; constants = graph .constants ++ (n ∷ []); vertices = graph .vertices; edges = graph .edges }
+plusConstant graph n = record { mode = graph .mode; signals = graph .signals; constants = graph .constants ++ (n ∷ []); vertices = graph .vertices; edges = graph .edges }
 
 abbrev plusVertex : Graph → Bytes → Graph
-plusVertex graph n = record { signals = graph .signals; constants = graph .constants; vertices = graph .vertices ++ (n ∷ []); edges = graph .edges }
+plusVertex graph n = record { mode = graph .mode; signals = graph .signals; constants = graph .constants; vertices = graph .vertices ++ (n ∷ []); edges = graph .edges }
 
 abbrev plusEdge : Graph → Edge → Graph
-plusEdge graph e = record { signals = graph .signals; constants = graph .constants; vertices = graph .vertices; edges = graph .edges ++ (e ∷ []) }
+plusEdge graph e = record { mode = graph .mode; signals = graph .signals; constants = graph .constants; vertices = graph .vertices; edges = graph .edges ++ (e ∷ []) }
 
 unless-went : (j : Judged) (graph : Graph) (e : Edge) {more : Graph} → unlessFaulty j graph e ≡ went more → (j ≡ Fine) × (plusEdge graph e ≡ more)
 unfolding unlessFaulty
@@ -158,14 +165,14 @@ module _ (text : Bytes) (graph : Graph) (g : Grown text graph) where
       let v0 : graph .vertices ≡ [] = none-list (graph .vertices) (omega arith) in
       let e0 : graph .edges ≡ [] = none-list (graph .edges) (omega arith) in
       let k1 : length (graph .signals ++ (n ∷ [])) + length (graph .constants) ≡ suc (namedOf graph) = omega (arith, one-more (graph .signals) n) in
-      let r0 : 0 + namedOf graph ≡ recordsOf graph = omega arith in
+      let r0 : modeLines (graph .mode) + namedOf graph ≡ recordsOf graph = omega arith in
       record {
         grown = record {
           signals-few = omega (arith, one-more (graph .signals) n);
           constants-few = g .constants-few;
           vertices-few = g .vertices-few;
           edges-few = g .edges-few;
-          names = rw k1 (held-more text 0 (namedOf graph) ∙ rw (r0, p, g .names, c0, append-nil, append-nil));
+          names = rw k1 (held-more text (modeLines (graph .mode)) (namedOf graph) ∙ rw (r0, p, g .names, c0, append-nil, append-nil));
           points = rw v0 (held-none text _);
           edges = rw e0 tt;
         };
@@ -177,14 +184,14 @@ module _ (text : Bytes) (graph : Graph) (g : Grown text graph) where
       let v0 : graph .vertices ≡ [] = none-list (graph .vertices) (omega arith) in
       let e0 : graph .edges ≡ [] = none-list (graph .edges) (omega arith) in
       let k1 : length (graph .signals) + length (graph .constants ++ (n ∷ [])) ≡ suc (namedOf graph) = omega (arith, one-more (graph .constants) n) in
-      let r0 : 0 + namedOf graph ≡ recordsOf graph = omega arith in
+      let r0 : modeLines (graph .mode) + namedOf graph ≡ recordsOf graph = omega arith in
       record {
         grown = record {
           signals-few = g .signals-few;
           constants-few = omega (arith, one-more (graph .constants) n);
           vertices-few = g .vertices-few;
           edges-few = g .edges-few;
-          names = rw k1 (held-more text 0 (namedOf graph) ∙ rw (r0, p, g .names) (append-assoc (graph .signals) (graph .constants) (n ∷ [])));
+          names = rw k1 (held-more text (modeLines (graph .mode)) (namedOf graph) ∙ rw (r0, p, g .names) (append-assoc (graph .signals) (graph .constants) (n ∷ [])));
           points = rw v0 (held-none text _);
           edges = rw e0 tt;
         };
@@ -195,7 +202,7 @@ module _ (text : Bytes) (graph : Graph) (g : Grown text graph) where
   plus-vertex n p late few =
       let e0 : graph .edges ≡ [] = none-list (graph .edges) (omega arith) in
       let k1 : length (graph .vertices ++ (n ∷ [])) ≡ suc (length (graph .vertices)) = omega (arith, one-more (graph .vertices) n) in
-      let r0 : namedOf graph + length (graph .vertices) ≡ recordsOf graph = omega arith in
+      let r0 : modeLines (graph .mode) + namedOf graph + length (graph .vertices) ≡ recordsOf graph = omega arith in
       record {
         grown = record {
           signals-few = g .signals-few;
@@ -203,13 +210,13 @@ module _ (text : Bytes) (graph : Graph) (g : Grown text graph) where
           vertices-few = omega (arith, k1);
           edges-few = g .edges-few;
           names = g .names;
-          points = rw k1 (held-more text (namedOf graph) (length (graph .vertices)) ∙ rw (r0, p, g .points));
+          points = rw k1 (held-more text (modeLines (graph .mode) + namedOf graph) (length (graph .vertices)) ∙ rw (r0, p, g .points));
           edges = rw e0 tt;
         };
         count = omega (arith, k1);
       }
 
-  plus-edge : (e : Edge) → EdgeSound text (graph .signals) (graph .constants) (graph .vertices) (arcOf text (recordsOf graph) e) e → length (graph .edges) < 128 → OneMore text (recordsOf graph) (plusEdge graph e)
+  plus-edge : (e : Edge) → ((t : Bool) → EdgeSound text (graph .signals) (graph .constants) (graph .vertices) t (arcOf text (recordsOf graph) t e) e) → length (graph .edges) < 128 → OneMore text (recordsOf graph) (plusEdge graph e)
   plus-edge e h few =
       record {
         grown = record {
@@ -219,12 +226,39 @@ module _ (text : Bytes) (graph : Graph) (g : Grown text graph) where
           edges-few = omega (arith, one-more (graph .edges) e);
           names = g .names;
           points = g .points;
-          edges = edges-more text (graph .signals) (graph .constants) (graph .vertices) (namedOf graph + length (graph .vertices)) (graph .edges) e (g .edges) h;
+          edges = edges-more text (graph .signals) (graph .constants) (graph .vertices) (modeLines (graph .mode) + namedOf graph + length (graph .vertices)) (graph .edges) e (g .edges) h;
         };
         count = omega (arith, one-more (graph .edges) e);
       }
 
+  plus-mode : (m : Mode) → recordsOf graph ≤ 0 → modeLines m ≡ 1 → OneMore text (recordsOf graph) (plusMode graph m)
+  plus-mode m first one =
+      let s0 : graph .signals ≡ [] = none-list (graph .signals) (omega arith) in
+      let c0 : graph .constants ≡ [] = none-list (graph .constants) (omega arith) in
+      let v0 : graph .vertices ≡ [] = none-list (graph .vertices) (omega arith) in
+      let e0 : graph .edges ≡ [] = none-list (graph .edges) (omega arith) in
+      record {
+        grown = record {
+          signals-few = g .signals-few;
+          constants-few = g .constants-few;
+          vertices-few = g .vertices-few;
+          edges-few = g .edges-few;
+          names = rw (s0, c0) (held-none text _);
+          points = rw v0 (held-none text _);
+          edges = rw e0 tt;
+        };
+        count = omega (arith, one);
+      }
+
   module _ {more : Graph} where
+    mode-step : (m : Mode) → modeLines m ≡ 1 → addMode graph m ≡ went more → OneMore text (recordsOf graph) more
+    unfolding addMode
+    mode-step m one h =
+        let n = modeLines (graph .mode) + length (graph .signals) + length (graph .constants) + length (graph .vertices) + length (graph .edges) in
+        let a = pick-fault (ltb 0 n) _ _ h in
+        let e : plusMode graph m ≡ more = cc in
+        subst (OneMore text (recordsOf graph)) e (plus-mode m (omega (arith, ltb-false 0 n (a .0))) one)
+
     signal-step : (n : Bytes) → Fits text (recordsOf graph) (signal n) → addSignal graph n ≡ went more → OneMore text (recordsOf graph) more
     unfolding addSignal
     signal-step n p h =
@@ -262,12 +296,13 @@ module _ (text : Bytes) (graph : Graph) (g : Grown text graph) where
         let l = lower-fine (judgedFormula (namesOf graph) a) (judgedFormula (namesOf graph) c) (u .0) in
         subst (OneMore text (recordsOf graph)) (u .1)
         (plus-edge (edgeOf graph (lookUp f (graph .vertices) .place) (lookUp t (graph .vertices) .place) m a c)
-        (record {
+        (λ b.
+        record {
           from-known = known-place f (graph .vertices) (hf .0);
           to-known = known-place t (graph .vertices) (ht .0);
           from-is = refl;
           to-is = refl;
-          marked-is = refl;
+          terminal-is = refl;
           antecedent-at = p .0;
           consequent-at = p .1;
           antecedent-sound = formula-sound (graph .signals) (graph .constants) a (l .0);
@@ -278,6 +313,7 @@ module _ (text : Bytes) (graph : Graph) (g : Grown text graph) where
     record-step : (r : Record) → Fits text (recordsOf graph) r → add graph r ≡ went more → OneMore text (recordsOf graph) more
     unfolding add
     record-step shapeless p h = let z : _≡_ {A = ℕ} 0 1 = cc in absurd (omega arith)
+    record-step (mode m) p h = mode-step m p h
     record-step (signal n) p h = signal-step n p h
     record-step (constant n) p h = constant-step n p h
     record-step (vertex n) p h = vertex-step n p h
@@ -288,6 +324,7 @@ module _ (text : Bytes) (graph : Graph) (g : Grown text graph) where
     line-step h = record-step (recordOf (lineOf text (recordsOf graph))) (line-fits text (recordsOf graph)) h
 
 pub nothing-grown : (text : Bytes) → Grown text nothing
+unfolding modeLines
 nothing-grown text =
     record {
       signals-few = omega arith;
@@ -338,7 +375,7 @@ lines-sound text graph n (line ∷ next ∷ more) g e h =
     line-sound text graph n line next more g e (λ more2 g2 e2 h2. lines-sound text more2 (n + 1) (next ∷ more) g2 e2 h2) (add graph (recordOf line)) refl h
 
 text-sound : (text : Bytes) {graph : Graph} → graphOf text ≡ accepted graph → Ends text graph
-unfolding graphOf lineStart
+unfolding graphOf lineStart modeLines
 text-sound text {graph} h = go (ltb 32768 (length text)) h
   where
     go : (t : Bool) → pick t (refused TextTooLong) (readLines nothing 1 (split 10 text)) ≡ accepted graph → Ends text graph
@@ -359,36 +396,37 @@ held-at text m n c i d {ns} h l =
     rw (List·getD-append (namePlaces text n c) (replicate (m - length (namePlaces text n c)) 0) 0 i p)
     (sym (List·getD-map (pieceAt 10 text) (namePlaces text n c) i 0) ∙ rw h (any-default ns i (pieceAt 10 text 0) d q))
 
-edges-at : (text : Bytes) (ss cs vs : List Bytes) (n : ℕ) (es : List Edge) (i : ℕ) (d : Edge) → EdgesSound text ss cs vs n es → i < length es → EdgeSound text ss cs vs (getD (arcsOf text n es) i noArc) (getD es i d)
+edges-at : (t : Edge → Bool) (text : Bytes) (ss cs vs : List Bytes) (n : ℕ) (es : List Edge) (i : ℕ) (d : Edge) → EdgesSound text ss cs vs n es → i < length es → EdgeSound text ss cs vs (t (getD es i d)) (getD (arcsOf t text n es) i noArc) (getD es i d)
 unfolding arcsOf
-edges-at text ss cs vs n [] i d h l = absurd (omega arith)
-edges-at text ss cs vs n (e ∷ es) zero d h l = h .0
-edges-at text ss cs vs n (e ∷ es) (suc i) d h l = edges-at text ss cs vs (n + 1) es i d (h .1) (omega arith)
+edges-at t text ss cs vs n [] i d h l = absurd (omega arith)
+edges-at t text ss cs vs n (e ∷ es) zero d h l = h .0 (t e)
+edges-at t text ss cs vs n (e ∷ es) (suc i) d h l = edges-at t text ss cs vs (n + 1) es i d (h .1) (omega arith)
 
 -- THE LAW: the graph of an accepted text is sound
 pub sound : (text : Bytes) {graph : Graph} → graphOf text ≡ accepted graph → Sound text graph
-unfolding heldOf filled
+unfolding heldOf heldAs filled
 sound text {graph} h =
     let w = text-sound text h in
     let g = w .0 in
-    let arcs = arcsOf text (namedOf graph + length (graph .vertices)) (graph .edges) in
+    let first = modeLines (graph .mode) in
+    let arcs = arcsOf (isTerminal graph) text (first + namedOf graph + length (graph .vertices)) (graph .edges) in
     record {
       signals-few = g .signals-few;
       constants-few = g .constants-few;
       some-vertex = w .1;
       vertices-few = g .vertices-few;
       edges-few = g .edges-few;
-      names-long = filled-length 69 0 (namePlaces text 0 (namedOf graph)) (omega (arith, places-length text 0 (namedOf graph), g .signals-few, g .constants-few));
-      points-long = filled-length 64 0 (namePlaces text (namedOf graph) (length (graph .vertices))) (omega (arith, places-length text (namedOf graph) (length (graph .vertices)), g .vertices-few));
-      arcs-long = filled-length 128 noArc arcs (omega (arith, arcs-length text (namedOf graph + length (graph .vertices)) (graph .edges), g .edges-few));
-      names-held = ap (held text) (places-first text 69 0 (namedOf graph)) ∙ g .names;
-      points-held = ap (held text) (places-first text 64 (namedOf graph) (length (graph .vertices))) ∙ g .points;
-      name-at = λ i d l. held-at text 69 0 (namedOf graph) i d (g .names) l;
-      point-at = λ i d l. held-at text 64 (namedOf graph) (length (graph .vertices)) i d (g .points) l;
+      names-long = filled-length 69 0 (namePlaces text first (namedOf graph)) (omega (arith, places-length text first (namedOf graph), g .signals-few, g .constants-few));
+      points-long = filled-length 64 0 (namePlaces text (first + namedOf graph) (length (graph .vertices))) (omega (arith, places-length text (first + namedOf graph) (length (graph .vertices)), g .vertices-few));
+      arcs-long = filled-length 128 noArc arcs (omega (arith, arcs-length (isTerminal graph) text (first + namedOf graph + length (graph .vertices)) (graph .edges), g .edges-few));
+      names-held = ap (held text) (places-first text 69 first (namedOf graph)) ∙ g .names;
+      points-held = ap (held text) (places-first text 64 (first + namedOf graph) (length (graph .vertices))) ∙ g .points;
+      name-at = λ i d l. held-at text 69 first (namedOf graph) i d (g .names) l;
+      point-at = λ i d l. held-at text 64 (first + namedOf graph) (length (graph .vertices)) i d (g .points) l;
       edge-at = λ i d l.
-          let p : i < length arcs = rw (arcs-length text (namedOf graph + length (graph .vertices)) (graph .edges)) l in
+          let p : i < length arcs = rw (arcs-length (isTerminal graph) text (first + namedOf graph + length (graph .vertices)) (graph .edges)) l in
           rw (List·getD-append arcs (replicate (128 - length arcs) noArc) noArc i p)
-          (edges-at text (graph .signals) (graph .constants) (graph .vertices) (namedOf graph + length (graph .vertices)) (graph .edges) i d (g .edges) l);
+          (edges-at (isTerminal graph) text (graph .signals) (graph .constants) (graph .vertices) (first + namedOf graph + length (graph .vertices)) (graph .edges) i d (g .edges) l);
     }
 
 -- a formula's bytes stand within the text

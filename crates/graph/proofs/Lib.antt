@@ -6,6 +6,7 @@ pub mod WordLaws
 pub mod EdgeLaws
 pub mod FieldLaws
 pub mod ArrayLaws
+pub mod ModeLaws
 pub mod LineLaws
 pub mod HeldLaws
 pub mod TextLaws

@@ -6,15 +6,16 @@ use native.Mathlib.Omega.{arith}
 use lib.ListN.{length, take, drop, length-drop}
 use lib.Seq.{length-take-le}
 use Rattle.assertion.specs.Graph.{Bytes, Graph}
+use Rattle.assertion.specs.declared.Mode.{Mode}
 use Rattle.graph.specs.Pieces.{endAt, pieceAt}
 use Rattle.graph.specs.Records.{recordOf}
-use Rattle.graph.specs.Reading.{add, addSignal, addConstant, addVertex, addEdge}
+use Rattle.graph.specs.Reading.{add, addMode, addSignal, addConstant, addVertex, addEdge}
 use Rattle.graph.specs.Held.{lineStart, lineOf, fieldAt}
 use Rattle.graph.specs.Private.Steps.{viewed, FieldOf, Placed, EdgeAt, faultyOf, addedOf}
 use Rattle.graph.specs.declared.Fault.the-variants.{WrongShape}
 use Rattle.graph.specs.declared.CheckedGraph.{CheckedGraph}
 use Rattle.graph.specs.declared.Shape.{Shape}
-use Rattle.graph.specs.declared.Shape.the-variants.{Wrong, Signal, Constant, Vertex, Edge}
+use Rattle.graph.specs.declared.Shape.the-variants.{Wrong, Moded, Signal, Constant, Vertex, Edge}
 use Rattle.graph.proofs.PieceLaws.{piece-take, piece-in}
 
 pub part-length : (text : Bytes) (at end : ℕ) → at ≤ end → end ≤ length text → length (take (end - at) (drop at text)) ≡ end - at
@@ -48,6 +49,10 @@ module _ (text : Bytes) (graph : Graph) (n at end : ℕ) (ha : at ≡ lineStart 
   pub line-wrong : (g : CheckedGraph) → shape ≡ Wrong → faultyOf g WrongShape ≡ addedOf text g (add graph (recordOf (lineOf text n)))
   unfolding add viewed addedOf
   line-wrong g e = rw (is-record e)
+
+  pub line-mode : (m : Mode) → shape ≡ Moded m → addMode graph m ≡ add graph (recordOf (lineOf text n))
+  unfolding add viewed
+  line-mode m e = sym (ap (add graph) (is-record e))
 
   pub line-signal : (p : ℕ) → shape ≡ Signal p → addSignal graph (pieceAt 10 text (at + p)) ≡ add graph (recordOf (lineOf text n))
   unfolding add viewed

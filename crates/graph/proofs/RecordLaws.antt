@@ -6,35 +6,56 @@ use mathlib.Core.List.{List, [], _∷_}
 use native.Mathlib.Omega.{arith}
 use lib.ListN.{length, drop}
 use Rattle.formula.specs.Classes.{isName}
+use Rattle.text.specs.Quoted.{bytes}
 use Rattle.assertion.specs.Graph.{Bytes}
+use Rattle.assertion.specs.declared.Mode.the-variants.{Terminal, Strong}
 use Rattle.graph.specs.Pieces.{split, endAt, pieceAt, same}
-use Rattle.graph.specs.Records.{shapeless, named, marked, edged, ofFields, recordOf}
+use Rattle.graph.specs.Records.{shapeless, moded, named, marked, edged, ofFields, recordOf}
 use Rattle.graph.specs.Held.{fieldStart}
 use Rattle.graph.specs.Private.Steps.{viewed}
-use Rattle.graph.specs.declared.Shape.the-variants.{Wrong, Signal, Constant, Vertex, Edge}
+use Rattle.graph.specs.declared.Shape.the-variants.{Wrong, Moded, Signal, Constant, Vertex, Edge}
 use Rattle.graph.proofs.PieceLaws.{split-cut, split-last, split-end, split-some}
 
+-- the word of an `M` line
+module _ (line word : Bytes) where
+  pub moded-terminal : same word (bytes "terminal") ≡ true → viewed line (Moded Terminal) ≡ moded word
+  unfolding viewed moded
+  moded-terminal s = rw s
+
+  pub moded-strong : same word (bytes "terminal") ≡ false → same word (bytes "strong") ≡ true → viewed line (Moded Strong) ≡ moded word
+  unfolding viewed moded
+  moded-strong s t = rw (s, t)
+
+  pub moded-not : same word (bytes "terminal") ≡ false → same word (bytes "strong") ≡ false → viewed line Wrong ≡ moded word
+  unfolding viewed moded
+  moded-not s t = rw (s, t)
+
 module _ (line : Bytes) (at : ℕ) {kind field : Bytes} (hk : kind ≡ pieceAt 9 line 0) (hf : field ≡ drop at line) where
-  pub named-not : isName field ≡ false → viewed line Wrong ≡ named (pieceAt 9 line 0) (drop at line)
-  unfolding viewed named
-  named-not e = rw (← hf, e)
+  pub named-mode : same kind (77 ∷ []) ≡ true → moded field ≡ named (pieceAt 9 line 0) (drop at line)
+  unfolding named
+  named-mode m = rw (← hk, ← hf, m)
 
-  module _ (e : isName field ≡ true) where
-    pub named-signal : same kind (83 ∷ []) ≡ true → viewed line (Signal at) ≡ named (pieceAt 9 line 0) (drop at line)
+  module _ (m : same kind (77 ∷ []) ≡ false) where
+    pub named-not : isName field ≡ false → viewed line Wrong ≡ named (pieceAt 9 line 0) (drop at line)
     unfolding viewed named
-    named-signal s = rw (← hk, ← hf, e, s)
+    named-not e = rw (← hk, ← hf, m, e)
 
-    pub named-constant : same kind (83 ∷ []) ≡ false → same kind (75 ∷ []) ≡ true → viewed line (Constant at) ≡ named (pieceAt 9 line 0) (drop at line)
-    unfolding viewed named
-    named-constant s k = rw (← hk, ← hf, e, s, k)
+    module _ (e : isName field ≡ true) where
+      pub named-signal : same kind (83 ∷ []) ≡ true → viewed line (Signal at) ≡ named (pieceAt 9 line 0) (drop at line)
+      unfolding viewed named
+      named-signal s = rw (← hk, ← hf, m, e, s)
 
-    pub named-vertex : same kind (83 ∷ []) ≡ false → same kind (75 ∷ []) ≡ false → same kind (86 ∷ []) ≡ true → viewed line (Vertex at) ≡ named (pieceAt 9 line 0) (drop at line)
-    unfolding viewed named
-    named-vertex s k v = rw (← hk, ← hf, e, s, k, v)
+      pub named-constant : same kind (83 ∷ []) ≡ false → same kind (75 ∷ []) ≡ true → viewed line (Constant at) ≡ named (pieceAt 9 line 0) (drop at line)
+      unfolding viewed named
+      named-constant s k = rw (← hk, ← hf, m, e, s, k)
 
-    pub named-none : same kind (83 ∷ []) ≡ false → same kind (75 ∷ []) ≡ false → same kind (86 ∷ []) ≡ false → viewed line Wrong ≡ named (pieceAt 9 line 0) (drop at line)
-    unfolding viewed named
-    named-none s k v = rw (← hk, ← hf, e, s, k, v)
+      pub named-vertex : same kind (83 ∷ []) ≡ false → same kind (75 ∷ []) ≡ false → same kind (86 ∷ []) ≡ true → viewed line (Vertex at) ≡ named (pieceAt 9 line 0) (drop at line)
+      unfolding viewed named
+      named-vertex s k v = rw (← hk, ← hf, m, e, s, k, v)
+
+      pub named-none : same kind (83 ∷ []) ≡ false → same kind (75 ∷ []) ≡ false → same kind (86 ∷ []) ≡ false → viewed line Wrong ≡ named (pieceAt 9 line 0) (drop at line)
+      unfolding viewed named
+      named-none s k v = rw (← hk, ← hf, m, e, s, k, v)
 
 module _ (line : Bytes) (f t m a c : ℕ) {mark : Bytes} (hm : mark ≡ pieceAt 9 line m) where
   pub marked-terminal : same mark (116 ∷ []) ≡ true → viewed line (Edge f t true a c) ≡ marked (pieceAt 9 line f) (pieceAt 9 line t) (pieceAt 9 line m) (pieceAt 9 line a) (pieceAt 9 line c)

@@ -10,9 +10,9 @@ use lib.Seq.{drop-cons}
 use Rattle.assertion.specs.Graph.{Bytes, Graph}
 use Rattle.graph.specs.Pieces.{split, endAt, pieceAt}
 use Rattle.graph.specs.Records.{recordOf}
-use Rattle.graph.specs.Reading.{Step, fault, went, add, refused, finished, readLines, nothing, graphOf}
-use Rattle.graph.specs.Held.{lineStart, lineOf, heldOf, answerOf, readOf}
-use Rattle.graph.specs.Private.Steps.{recordsOf, Holds, Kept, addedOf}
+use Rattle.graph.specs.Reading.{Step, fault, went, modeLines, add, refused, finished, readLines, nothing, graphOf}
+use Rattle.graph.specs.Held.{lineStart, lineOf, answerOf, readOf}
+use Rattle.graph.specs.Private.Steps.{recordsOf, writtenOf, Holds, Kept, addedOf}
 use Rattle.graph.specs.declared.Fault.{Fault}
 use Rattle.graph.specs.declared.Fault.the-variants.{WrongShape}
 use Rattle.graph.specs.declared.Judged.the-variants.{Fine, Faulty}
@@ -57,12 +57,12 @@ module _ (text : Bytes) (graph : Graph) (n at : ℕ) where
 pub record Going (text : Bytes) (g : CheckedGraph) (at line : ℕ) : Type 0 where
   pub graph : Graph
   pub grown : Grown text graph
-  pub arrays : g ≡ heldOf text graph
+  pub arrays : g ≡ writtenOf text graph
   pub start : at ≡ lineStart text (recordsOf graph)
   pub rest : readLines graph line (split 10 (drop at text)) ≡ readLines nothing 1 (split 10 text)
 
-pub going-start : (text : Bytes) {g : CheckedGraph} → g ≡ heldOf text nothing → Going text g 0 1
-unfolding lineStart
+pub going-start : (text : Bytes) {g : CheckedGraph} → g ≡ writtenOf text nothing → Going text g 0 1
+unfolding lineStart modeLines
 going-start text h = record { graph = nothing; grown = nothing-grown text; arrays = h; start = refl; rest = refl }
 
 -- what a step answered
@@ -71,7 +71,7 @@ unfolding addedOf
 added-fault text g (fault k) e h = let j = ap (λ (a : Added). a .judged) e in cc
 added-fault text g (went more) {x} {f} e h = let j : x .judged ≡ Fine = ap (λ (a : Added). a .judged) e in let z : _≡_ {A = ℕ} 0 1 = cc in absurd (omega arith)
 
-added-went : (text : Bytes) (g : CheckedGraph) (s : Step) {x : Added} → x ≡ addedOf text g s → x .judged ≡ Fine → (more : Graph) × (s ≡ went more) × (x .graph ≡ heldOf text more)
+added-went : (text : Bytes) (g : CheckedGraph) (s : Step) {x : Added} → x ≡ addedOf text g s → x .judged ≡ Fine → (more : Graph) × (s ≡ went more) × (x .graph ≡ writtenOf text more)
 unfolding addedOf
 added-went text g (fault k) {x} e h = let j : x .judged ≡ Faulty k = ap (λ (a : Added). a .judged) e in let z : _≡_ {A = ℕ} 0 1 = cc in absurd (omega arith)
 added-went text g (went more) e h = (more, refl, ap (λ (a : Added). a .graph) e)

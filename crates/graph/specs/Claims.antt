@@ -3,11 +3,11 @@
 -- at most 16 deep. Assumes nothing.
 use Prim.Native.Nat.{ℕ, _+_, _≤_, _<_}
 use mathlib.Core.Path.{_≡_}
-use mathlib.Core.Bool.{true}
+use mathlib.Core.Bool.{Bool, true}
 use mathlib.Core.List.{List, _++_, map}
 use lib.ListN.{length, getD, take, drop}
 use Rattle.formula.specs.Grammar.{Tree, tree, treeOf, depthOf}
-use Rattle.assertion.specs.Graph.{Bytes, Expr, Edge, Graph}
+use Rattle.assertion.specs.Graph.{Bytes, Expr, Edge, Graph, isTerminal}
 use Rattle.graph.specs.Pieces.{pieceAt}
 use Rattle.graph.specs.Reading.{known, resolved, namesOf, accepted, graphOf}
 use Rattle.graph.specs.Held.{noArc, heldOf}
@@ -26,13 +26,13 @@ pub record FormulaSound (ss cs : List Bytes) (s : Bytes) (x : Expr) : Type 0 whe
   pub names-known : known (ss ++ cs) s parse ≡ true
   pub means : x ≡ resolved (length ss) (ss ++ cs) s parse
 
--- an edge between vertices of vs, whose formulas stand in the text where its arc says
-pub record EdgeSound (text : Bytes) (ss cs vs : List Bytes) (a : Arc) (e : Edge) : Type 0 where
+-- an edge between vertices of vs, terminal or not, whose formulas stand in the text where its arc says
+pub record EdgeSound (text : Bytes) (ss cs vs : List Bytes) (terminal : Bool) (a : Arc) (e : Edge) : Type 0 where
   pub from-known : e .from < length vs
   pub to-known : e .to < length vs
   pub from-is : a .from ≡ e .from
   pub to-is : a .to ≡ e .to
-  pub marked-is : a .marked ≡ e .marked
+  pub terminal-is : a .terminal ≡ terminal
   pub antecedent-at : FormulaAt text (a .left) (a .lefts) (e .antecedentText)
   pub consequent-at : FormulaAt text (a .right) (a .rights) (e .consequentText)
   pub antecedent-sound : FormulaSound ss cs (e .antecedentText) (e .antecedent)
@@ -53,7 +53,7 @@ pub record Sound (text : Bytes) (graph : Graph) : Type 0 where
   pub points-held : map (pieceAt 10 text) (take (length (graph .vertices)) (heldOf text graph .points)) ≡ graph .vertices
   pub name-at : (i : ℕ) (d : Bytes) → i < length (graph .signals) + length (graph .constants) → pieceAt 10 text (getD (heldOf text graph .names) i 0) ≡ getD (namesOf graph) i d
   pub point-at : (i : ℕ) (d : Bytes) → i < length (graph .vertices) → pieceAt 10 text (getD (heldOf text graph .points) i 0) ≡ getD (graph .vertices) i d
-  pub edge-at : (i : ℕ) (d : Edge) → i < length (graph .edges) → EdgeSound text (graph .signals) (graph .constants) (graph .vertices) (getD (heldOf text graph .arcs) i noArc) (getD (graph .edges) i d)
+  pub edge-at : (i : ℕ) (d : Edge) → i < length (graph .edges) → EdgeSound text (graph .signals) (graph .constants) (graph .vertices) (isTerminal graph (getD (graph .edges) i d)) (getD (heldOf text graph .arcs) i noArc) (getD (graph .edges) i d)
 
 -- THE CLAIM
 abbrev pub GraphMeans : Bytes → Type 0

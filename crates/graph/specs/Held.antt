@@ -1,13 +1,13 @@
 -- What reading a graph text answers: the checked graph by places in the text. Record k of the text, from
--- 0, is its line k + 1, and signals, constants, vertices and edges follow one another, so each array is
--- given by the lines of its records. Assumes nothing.
+-- 0, is its line k + 1, and the mode, signals, constants, vertices and edges follow one another, so each
+-- array is given by the lines of its records. Assumes nothing.
 use Prim.Native.Nat.{ℕ, zero, suc, _+_, _-_}
-use mathlib.Core.Bool.{false}
+use mathlib.Core.Bool.{Bool, false}
 use mathlib.Core.List.{List, [], _∷_, _++_}
 use lib.ListN.{length, drop, replicate}
-use Rattle.assertion.specs.Graph.{Bytes, Edge, Graph}
+use Rattle.assertion.specs.Graph.{Bytes, Edge, Graph, isTerminal}
 use Rattle.graph.specs.Pieces.{upTo, endAt, pieceAt}
-use Rattle.graph.specs.Reading.{Outcome, refused, accepted, nothing, graphOf}
+use Rattle.graph.specs.Reading.{modeLines, Outcome, refused, accepted, nothing, graphOf}
 use Rattle.graph.specs.declared.Arc.{Arc}
 use Rattle.graph.specs.declared.CheckedGraph.{CheckedGraph}
 use Rattle.graph.specs.declared.ReadOutcome.the-variants.{Checked, Refused}
@@ -40,45 +40,50 @@ unfoldable pub namePlaces : Bytes → ℕ → ℕ → List ℕ
 namePlaces text n zero = []
 namePlaces text n (suc count) = fieldAt text n 1 ∷ namePlaces text (n + 1) count
 
--- an edge with the places and lengths of its formulas, which are fields 4 and 5 of line n
-unfoldable pub arcOf : Bytes → ℕ → Edge → Arc
-arcOf text n e =
+-- an edge, terminal or not, with the places and lengths of its formulas, which are fields 4 and 5 of line n
+unfoldable pub arcOf : Bytes → ℕ → Bool → Edge → Arc
+arcOf text n terminal e =
     record {
       from = e .from;
       to = e .to;
-      marked = e .marked;
+      terminal = terminal;
       left = fieldAt text n 4;
       lefts = fieldLength (lineOf text n) 4;
       right = fieldAt text n 5;
       rights = fieldLength (lineOf text n) 5;
     }
 
--- edges whose first is line n
-unfoldable pub arcsOf : Bytes → ℕ → List Edge → List Arc
-arcsOf text n [] = []
-arcsOf text n (e ∷ es) = arcOf text n e ∷ arcsOf text (n + 1) es
+-- edges whose first is line n, by a test for the terminal ones
+unfoldable pub arcsOf : (Edge → Bool) → Bytes → ℕ → List Edge → List Arc
+arcsOf t text n [] = []
+arcsOf t text n (e ∷ es) = arcOf text n (t e) e ∷ arcsOf t text (n + 1) es
 
 -- an element of an array that no edge fills
 abbrev pub noArc : Arc
-noArc = record { from = 0; to = 0; marked = false; left = 0; lefts = 0; right = 0; rights = 0 }
+noArc = record { from = 0; to = 0; terminal = false; left = 0; lefts = 0; right = 0; rights = 0 }
 
 -- an array of n elements, of which the first are given
 unfoldable pub filled : {A : Type 0} → ℕ → A → List A → List A
 filled n d xs = xs ++ replicate (n - length xs) d
 
--- the graph g of a text, by places
-unfoldable pub heldOf : Bytes → Graph → CheckedGraph
-heldOf text g =
+-- the graph g of a text, by places, with a test for the terminal edges
+unfoldable pub heldAs : (Edge → Bool) → Bytes → Graph → CheckedGraph
+heldAs t text g =
+    let first = modeLines (g .mode) in
     let named = length (g .signals) + length (g .constants) in
     record {
+      mode = g .mode;
       signals = length (g .signals);
       constants = length (g .constants);
       vertices = length (g .vertices);
       edges = length (g .edges);
-      names = filled 69 0 (namePlaces text 0 named);
-      points = filled 64 0 (namePlaces text named (length (g .vertices)));
-      arcs = filled 128 noArc (arcsOf text (named + length (g .vertices)) (g .edges));
+      names = filled 69 0 (namePlaces text first named);
+      points = filled 64 0 (namePlaces text (first + named) (length (g .vertices)));
+      arcs = filled 128 noArc (arcsOf t text (first + named + length (g .vertices)) (g .edges));
     }
+
+unfoldable pub heldOf : Bytes → Graph → CheckedGraph
+heldOf text g = heldAs (isTerminal g) text g
 
 -- ---- the answer: a refused text has the graph of no line
 unfoldable pub answerOf : Bytes → Outcome → GraphRead

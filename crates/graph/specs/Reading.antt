@@ -11,8 +11,10 @@ use Rattle.formula.specs.Classes.{pick}
 use Rattle.formula.specs.Grammar.{Tree, name, bit, not, group, join, Parsed, none, tree, treeOf, depthOf}
 use Rattle.assertion.specs.Graph as G
 use Rattle.assertion.specs.Graph.{Bytes, Expr, Edge, Graph, truth, neg, conj, disj, xor, same}
+use Rattle.assertion.specs.declared.Mode.{Mode}
+use Rattle.assertion.specs.declared.Mode.the-variants.{Unsaid, Terminal, Strong}
 use Rattle.graph.specs.Pieces.{split, lookUp}
-use Rattle.graph.specs.Records.{Record, shapeless, signal, constant, vertex, edge, recordOf}
+use Rattle.graph.specs.Records.{Record, shapeless, mode, signal, constant, vertex, edge, recordOf}
 use Rattle.graph.specs.declared.Fault.{Fault}
 use Rattle.graph.specs.declared.Fault.the-variants.{WrongShape, WrongOrder, TooMany, NameRepeated, UnknownVertex, NotFormula, TooDeep, UnknownName}
 use Rattle.graph.specs.declared.Judged.{Judged}
@@ -93,27 +95,39 @@ pub data Step : Type 0 where
   fault : Fault → Step
   went : Graph → Step
 
+-- how many lines say the mode
+unfoldable pub modeLines : Mode → ℕ
+modeLines Unsaid = 0
+modeLines Terminal = 1
+modeLines Strong = 1
+
+-- a line has come already
+unfoldable pub addMode : Graph → Mode → Step
+addMode g m =
+    pick (ltb 0 (modeLines (g .mode) + length (g .signals) + length (g .constants) + length (g .vertices) + length (g .edges))) (fault WrongOrder)
+    (went (record { mode = m; signals = g .signals; constants = g .constants; vertices = g .vertices; edges = g .edges }))
+
 -- a constant, a vertex or an edge has come already; 63 have come; the name has come
 unfoldable pub addSignal : Graph → Bytes → Step
 addSignal g n =
     pick (ltb 0 (length (g .constants) + length (g .vertices) + length (g .edges))) (fault WrongOrder)
     (pick (leb 63 (length (g .signals))) (fault TooMany)
     (pick (lookUp n (namesOf g) .known) (fault NameRepeated)
-    (went (record { signals = g .signals ++ (n ∷ []); constants = g .constants; vertices = g .vertices; edges = g .edges }))))
+    (went (record { mode = g .mode; signals = g .signals ++ (n ∷ []); constants = g .constants; vertices = g .vertices; edges = g .edges }))))
 
 unfoldable pub addConstant : Graph → Bytes → Step
 addConstant g n =
     pick (ltb 0 (length (g .vertices) + length (g .edges))) (fault WrongOrder)
     (pick (leb 6 (length (g .constants))) (fault TooMany)
     (pick (lookUp n (namesOf g) .known) (fault NameRepeated)
-    (went (record { signals = g .signals; constants = g .constants ++ (n ∷ []); vertices = g .vertices; edges = g .edges }))))
+    (went (record { mode = g .mode; signals = g .signals; constants = g .constants ++ (n ∷ []); vertices = g .vertices; edges = g .edges }))))
 
 unfoldable pub addVertex : Graph → Bytes → Step
 addVertex g n =
     pick (ltb 0 (length (g .edges))) (fault WrongOrder)
     (pick (leb 64 (length (g .vertices))) (fault TooMany)
     (pick (lookUp n (g .vertices) .known) (fault NameRepeated)
-    (went (record { signals = g .signals; constants = g .constants; vertices = g .vertices ++ (n ∷ []); edges = g .edges }))))
+    (went (record { mode = g .mode; signals = g .signals; constants = g .constants; vertices = g .vertices ++ (n ∷ []); edges = g .edges }))))
 
 -- an edge with its vertices by their places and its formulas as trees
 unfoldable pub edgeOf : Graph → ℕ → ℕ → Bool → Bytes → Bytes → Edge
@@ -130,7 +144,7 @@ edgeOf g from to marked a c =
 
 -- an edge, unless its formulas have a fault
 unfoldable pub unlessFaulty : Judged → Graph → Edge → Step
-unlessFaulty Fine g e = went (record { signals = g .signals; constants = g .constants; vertices = g .vertices; edges = g .edges ++ (e ∷ []) })
+unlessFaulty Fine g e = went (record { mode = g .mode; signals = g .signals; constants = g .constants; vertices = g .vertices; edges = g .edges ++ (e ∷ []) })
 unlessFaulty (Faulty f) g e = fault f
 
 -- a fault of either formula, the lower number first
@@ -150,6 +164,7 @@ addEdge g f t marked a c =
 
 unfoldable pub add : Graph → Record → Step
 add g shapeless = fault WrongShape
+add g (mode m) = addMode g m
 add g (signal n) = addSignal g n
 add g (constant n) = addConstant g n
 add g (vertex n) = addVertex g n
@@ -172,7 +187,7 @@ readLines g n (line ∷ next ∷ more) =
     elim (add g (recordOf line)) [ fault f ↦ refused (FaultyLine f n) | went g2 ↦ readLines g2 (n + 1) (next ∷ more) ]
 
 abbrev pub nothing : Graph
-nothing = record { signals = []; constants = []; vertices = []; edges = [] }
+nothing = record { mode = Unsaid; signals = []; constants = []; vertices = []; edges = [] }
 
 -- lines count from 1
 unfoldable pub graphOf : Bytes → Outcome

@@ -85,7 +85,7 @@ fn arc_of(
     Arc {
         from,
         to,
-        marked,
+        terminal: marked,
         left: at + left,
         lefts: left_end - left,
         right: at + right,

@@ -7,17 +7,19 @@ ghost use lib.ListN.{length};
 ghost use Rattle.assertion.specs.Graph.{Bytes, Graph};
 ghost use Rattle.graph.specs.Pieces.{endAt};
 ghost use Rattle.graph.specs.Reading.{faultNumber, refusalOf, refused, finished, nothing};
-ghost use Rattle.graph.specs.Held.{heldOf, answerOf, readOf};
+ghost use Rattle.graph.specs.Held.{answerOf, readOf};
 ghost use Rattle.graph.specs.Claims.{GraphMeans};
-ghost use Rattle.graph.specs.Private.Steps.{Kept, faultyOf, AddsLine};
+ghost use Rattle.graph.specs.Private.Steps.{Kept, writtenOf, faultyOf, AddsLine};
 
 mod edges;
 mod formulas;
+mod modes;
 mod names;
 mod pieces;
 mod records;
 mod shapes;
 
+use assertion::Mode;
 pub use names::look_up;
 pub use pieces::part;
 
@@ -28,7 +30,7 @@ const LONGEST_TEXT: usize = 32768;
 pub enum Fault {
     // Of no record's shape, or without its LF.
     WrongShape,
-    // A record after one of a later kind.
+    // A record after one of a later kind, or an `M` line after any line.
     WrongOrder,
     // One record too many of its kind.
     TooMany,
@@ -65,21 +67,22 @@ pub struct Found {
     pub place: usize,
 }
 
-// An edge: its vertices, its mark, and where its antecedent and its consequent stand in the text, with
-// their lengths.
+// An edge: its vertices, whether it is terminal, and where its antecedent and its consequent stand in the
+// text, with their lengths. Until all lines are read, the edges with the mark count as terminal.
 pub struct Arc {
     pub from: usize,
     pub to: usize,
-    pub marked: bool,
+    pub terminal: bool,
     pub left: usize,
     pub lefts: usize,
     pub right: usize,
     pub rights: usize,
 }
 
-// A checked graph: how many signals, constants, vertices and edges there are; where the names of the
-// signals and then the constants, and those of the vertices, start in the text; and the edges.
+// A checked graph: its mode; how many signals, constants, vertices and edges there are; where the names of
+// the signals and then the constants, and those of the vertices, start in the text; and the edges.
 pub struct CheckedGraph {
+    pub mode: Mode,
     pub signals: usize,
     pub constants: usize,
     pub vertices: usize,
@@ -103,6 +106,7 @@ pub struct GraphRead {
 // What a line is: of no record's shape; or a record, by the places in the line where its fields start.
 enum Shape {
     Wrong,
+    Moded(Mode),
     Signal(usize),
     Constant(usize),
     Vertex(usize),
@@ -175,6 +179,7 @@ fn add_line(text: &[u8], g: CheckedGraph, at: usize, end: usize) -> Added
     let shape = shapes::shape_of(line);
     match shape {
         Shape::Wrong => faulty(g, Fault::WrongShape),
+        Shape::Moded(mode) => modes::add_mode(g, mode),
         Shape::Signal(p) => records::add_signal(text, g, at + p),
         Shape::Constant(p) => records::add_constant(text, g, at + p),
         Shape::Vertex(p) => records::add_vertex(text, g, at + p),
@@ -190,12 +195,12 @@ fn add_line(text: &[u8], g: CheckedGraph, at: usize, end: usize) -> Added
 
 // The graph of no line.
 fn empty() -> CheckedGraph
-    ensures { λ r. ⌜ ((text : Bytes) → r ≡ heldOf text nothing) ⌝ }
+    ensures { λ r. ⌜ ((text : Bytes) → r ≡ writtenOf text nothing) ⌝ }
 {
     let none = Arc {
         from: 0,
         to: 0,
-        marked: false,
+        terminal: false,
         left: 0,
         lefts: 0,
         right: 0,
@@ -205,6 +210,7 @@ fn empty() -> CheckedGraph
     let points = [0usize; 64];
     let arcs = [none; 128];
     CheckedGraph {
+        mode: Mode::Unsaid,
         signals: 0,
         constants: 0,
         vertices: 0,
@@ -226,16 +232,18 @@ fn refuse(cause: Cause) -> GraphRead
     }
 }
 
-// A text whose lines are all read.
+// A text whose lines are all read: now the terminal edges are known.
 fn finish(g: CheckedGraph) -> GraphRead
-    ensures { λ r. ⌜ ((text : Bytes) (graph : Graph) → g ≡ heldOf text graph → r ≡ answerOf text (finished graph)) ⌝ }
+    requires { ⌜ Kept g ⌝ }
+    ensures { λ r. ⌜ ((text : Bytes) (graph : Graph) → g ≡ writtenOf text graph → r ≡ answerOf text (finished graph)) ⌝ }
 {
     if g.vertices == 0 {
         return refuse(Cause::NoVertex);
     }
+    let graph = modes::choose(g);
     GraphRead {
         outcome: ReadOutcome::Checked,
-        graph: g,
+        graph,
     }
 }
 

@@ -1,13 +1,29 @@
 // The record of a line, by the places where its fields start.
 ghost use lib.ListN.{drop};
+ghost use Rattle.assertion.specs.Graph.{Bytes};
 ghost use Rattle.graph.specs.Pieces.{pieceAt};
-ghost use Rattle.graph.specs.Records.{recordOf, named};
+ghost use Rattle.graph.specs.Records.{recordOf, moded, named};
 ghost use Rattle.graph.specs.Private.Steps.{FieldOf, Shaped, markedAt, edgedAt};
 use crate::Shape;
 use crate::pieces::end_at;
 use crate::pieces::is_byte;
 use crate::pieces::piece;
+use crate::pieces::same_bytes;
+use assertion::Mode;
 use formula::is_name;
+
+// An `M` line by its word.
+fn mode_shape(word: &[u8]) -> Shape
+    ensures { λ r. ⌜ ((line : Bytes) → Shaped line (moded (now (word .entry))) r) ⌝ }
+{
+    if same_bytes(word, b"terminal") {
+        return Shape::Moded(Mode::Terminal);
+    }
+    if same_bytes(word, b"strong") {
+        return Shape::Moded(Mode::Strong);
+    }
+    Shape::Wrong
+}
 
 // A record of two fields.
 fn named_shape(line: &[u8], at: usize) -> Shape
@@ -15,6 +31,9 @@ fn named_shape(line: &[u8], at: usize) -> Shape
     ensures { λ r. ⌜ Shaped (now (line .entry)) (named (pieceAt 9 (now (line .entry)) 0) (drop at (now (line .entry)))) r ⌝ }
 {
     let kind = piece(line, 0, b'\t');
+    if is_byte(kind, b'M') {
+        return mode_shape(&line[at..]);
+    }
     if is_name(&line[at..]) {
         if is_byte(kind, b'S') {
             return Shape::Signal(at);

@@ -1,6 +1,6 @@
 //! The bench on which calls are compared: its random source, and its record.
 
-use crate::compare::{compare, Call, Memory, Mismatch, Outcome};
+use crate::compare::{compare, Call, Memory, Mismatch, Name, Outcome};
 use crate::coverage::Coverage;
 use crate::random::Random;
 
@@ -14,6 +14,9 @@ impl Bench<'_> {
     pub fn compare(&mut self, call: &Call, memory: Memory) -> Result<Outcome, Mismatch> {
         let outcome = compare(call, memory)?;
         self.coverage.record(call.name, &outcome);
+        if call.name == Name::Build {
+            self.coverage.record_graph(&call.bytes, &outcome);
+        }
         Ok(outcome)
     }
 

@@ -160,6 +160,7 @@ impl Memory {
 pub struct Outcome {
     /// 0 where it was accepted.
     pub number: u32,
+    pub line: u32,
     pub memory: Memory,
 }
 
@@ -191,6 +192,7 @@ pub fn compare(call: &Call, memory: Memory) -> Result<Outcome, Mismatch> {
     match differences.is_empty() {
         true => Ok(Outcome {
             number: (due >> 32) as u32,
+            line: due as u32,
             memory: by_reference,
         }),
         false => Err(Mismatch(told(call, tally, &by_reference, &differences))),

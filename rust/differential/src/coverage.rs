@@ -1,4 +1,5 @@
-//! How often each call was accepted, and refused with each number.
+//! How often each call was accepted, and refused with each number; and of the graphs how
+//! often each rule chose their terminal edges.
 
 use crate::compare::{Name, Outcome};
 use std::collections::BTreeMap;
@@ -17,10 +18,18 @@ const REFUSALS: [(Name, &[u32]); 9] = [
     (Name::SessionPage, &[1, 12, 22]),
 ];
 
+/// What a graph's first line says, and which of its edges are marked.
+const MODES: [&str; 3] = ["no M line", "M terminal", "M strong"];
+const MARKS: [&str; 4] = ["all marked", "some marked", "none marked", "no edge"];
+
 #[derive(Default)]
 pub struct Coverage {
     /// By call and number, 0 for accepted.
     met: BTreeMap<(Name, u32), u64>,
+    /// The accepted graphs, by mode and marks.
+    graphs: BTreeMap<(&'static str, &'static str), u64>,
+    /// The graphs refused at a line whose first field is `M`, by number.
+    mode_refused: BTreeMap<u32, u64>,
     /// Cycles judged by their paths, and those rejected by one.
     pub path_cycles: u64,
     pub path_rejected: u64,
@@ -40,6 +49,26 @@ pub struct Coverage {
 impl Coverage {
     pub fn record(&mut self, name: Name, outcome: &Outcome) {
         *self.met.entry((name, outcome.number)).or_default() += 1;
+    }
+
+    /// Counts a graph, by what its text says.
+    pub fn record_graph(&mut self, text: &[u8], outcome: &Outcome) {
+        let lines: Vec<&[u8]> = text.split(|byte| *byte == b'\n').collect();
+        let line = outcome.line as usize;
+        if outcome.is_accepted() {
+            let graph = (mode_of(&lines), marks_of(&lines));
+            *self.graphs.entry(graph).or_default() += 1;
+        } else if line > 0 && first_field(lines[line - 1]) == b"M" {
+            *self.mode_refused.entry(outcome.number).or_default() += 1;
+        }
+    }
+
+    fn graphs(&self, mode: &'static str, marks: &'static str) -> u64 {
+        self.graphs.get(&(mode, marks)).copied().unwrap_or(0)
+    }
+
+    fn mode_refused(&self, number: u32) -> u64 {
+        self.mode_refused.get(&number).copied().unwrap_or(0)
     }
 
     /// Counts the trace, offset and length that were found in a good session.
@@ -77,6 +106,18 @@ impl Coverage {
                 }
             }
         }
+        for mode in MODES {
+            for marks in MARKS {
+                if self.graphs(mode, marks) == 0 {
+                    gaps.push(format!("a graph with {mode}, {marks}"));
+                }
+            }
+        }
+        for number in [2, 3] {
+            if self.mode_refused(number) == 0 {
+                gaps.push(format!("{number} at an M line"));
+            }
+        }
         if self.path_rejected == 0 || self.path_rejected == self.path_cycles {
             gaps.push("paths".into());
         }
@@ -90,6 +131,34 @@ impl Coverage {
     }
 }
 
+/// Of an accepted graph's lines.
+fn mode_of(lines: &[&[u8]]) -> &'static str {
+    let [none, terminal, strong] = MODES;
+    match lines[0] {
+        b"M\tterminal" => terminal,
+        b"M\tstrong" => strong,
+        _ => none,
+    }
+}
+
+fn marks_of(lines: &[&[u8]]) -> &'static str {
+    let [all, some, none, no_edge] = MARKS;
+    let edges = lines.iter().filter(|line| first_field(line) == b"E");
+    let marks: Vec<bool> = edges
+        .map(|line| line.split(|byte| *byte == b'\t').nth(3) == Some(b"t"))
+        .collect();
+    match (marks.contains(&true), marks.contains(&false)) {
+        (true, false) => all,
+        (true, true) => some,
+        (false, true) => none,
+        (false, false) => no_edge,
+    }
+}
+
+fn first_field(line: &[u8]) -> &[u8] {
+    line.split(|byte| *byte == b'\t').next().unwrap_or(line)
+}
+
 impl fmt::Display for Coverage {
     fn fmt(&self, f: &mut fmt::Formatter) -> fmt::Result {
         for (name, numbers) in REFUSALS {
@@ -100,6 +169,16 @@ impl fmt::Display for Coverage {
             }
             writeln!(f)?;
         }
+        for mode in MODES {
+            let counts = MARKS.map(|marks| format!("{marks} {}", self.graphs(mode, marks)));
+            writeln!(f, "graphs, {mode}: {}", counts.join(", "))?;
+        }
+        writeln!(
+            f,
+            "M lines refused: 2:{} 3:{}",
+            self.mode_refused(2),
+            self.mode_refused(3)
+        )?;
         writeln!(
             f,
             "lines handed back: {} of the flywheel, {} of the handle, {} empty",

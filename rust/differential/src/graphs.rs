@@ -1,11 +1,41 @@
 //! Graph texts: random ones, ones at the limits, and damaged ones.
+//!
+//! For No. 5 of document 02: of the graphs half have no `M` line, a quarter `terminal`, a
+//! quarter `strong`; and under each of the three, in every third graph no edge is marked, in
+//! others a few, about half, or all. Damaged texts have `M` lines on any line: good ones on
+//! another line than the first, also after one, and wrong ones as `WRONG_MODES` lists them.
 
 use crate::damage::{change_fields, damage};
 use crate::random::Random;
 use reference::{formula_of_gates, Graph};
 
 const MAX_GRAPH_BYTES: usize = 32_768;
-const MEANINGFUL: &[u8] = b"SKVEt-\t\n\r01abpq_!&^|=() \0\xff";
+const MEANINGFUL: &[u8] = b"MSKVEt-\t\n\r01abpq_!&^|=() \0\xff";
+pub const MODES: [&str; 2] = ["M\tterminal\n", "M\tstrong\n"];
+/// Another word, none, an empty one, a field too many, lower and upper case, bytes too few
+/// or too many, another separator.
+pub const WRONG_MODES: [&str; 20] = [
+    "M\n",
+    "M\t\n",
+    "M\tweak\n",
+    "M\tt\n",
+    "M\t-\n",
+    "M\tM\n",
+    "M\tStrong\n",
+    "M\tTERMINAL\n",
+    "m\tstrong\n",
+    "m\tterminal\n",
+    "M\tstron\n",
+    "M\tterminals\n",
+    "M\tstrong\t\n",
+    "M\tterminal\tx\n",
+    "M\tterminal\tstrong\n",
+    "M\t\tstrong\n",
+    "\tM\tstrong\n",
+    "M terminal\n",
+    "M\tstrong \n",
+    "M\tterminal\r\n",
+];
 
 /// A graph text of any kind.
 pub fn any(random: &mut Random) -> Vec<u8> {
@@ -21,8 +51,9 @@ pub fn any(random: &mut Random) -> Vec<u8> {
     let mut text = undamaged(random);
     if random.coin() {
         for _ in 0..random.within(1..=3) {
-            match random.below(3) {
-                0 => damage(random, &mut text, MEANINGFUL),
+            match random.below(7) {
+                0 | 1 => damage(random, &mut text, MEANINGFUL),
+                2 => change_mode(random, &mut text),
                 _ => change_record(random, &mut text),
             }
         }
@@ -44,6 +75,24 @@ pub fn undamaged(random: &mut Random) -> Vec<u8> {
         _ => Plan::at_limits(random),
     };
     plan.text(random)
+}
+
+/// No `M` line, or a good one.
+fn mode(random: &mut Random) -> &'static str {
+    match random.coin() {
+        true => "",
+        false => random.pick(&MODES),
+    }
+}
+
+/// The marks of which a graph's edges have one each.
+fn marks(random: &mut Random) -> &'static [&'static str] {
+    match random.below(6) {
+        0 | 1 => &["-"],
+        2 => &["-", "-", "-", "-", "-", "-", "-", "t"],
+        3 => &["t"],
+        _ => &["t", "-"],
+    }
 }
 
 /// How many records of each kind, and how heavy the formulas are.
@@ -115,7 +164,7 @@ impl Plan {
             repeat_one(random, &mut atoms);
             repeat_one(random, &mut vertices);
         }
-        let mut text = String::new();
+        let mut text = String::from(mode(random));
         for (index, name) in atoms.iter().enumerate() {
             let kind = if index < self.signals { 'S' } else { 'K' };
             text += &format!("{kind}\t{name}\n");
@@ -123,16 +172,23 @@ impl Plan {
         for name in &vertices {
             text += &format!("V\t{name}\n");
         }
+        let marks = marks(random);
         for _ in 0..self.edges {
-            text += &self.edge(random, &atoms, &vertices);
+            let mark = random.pick(marks);
+            text += &self.edge(random, &atoms, &vertices, mark);
         }
         text.into_bytes()
     }
 
-    fn edge(&self, random: &mut Random, atoms: &[String], vertices: &[String]) -> String {
+    fn edge(
+        &self,
+        random: &mut Random,
+        atoms: &[String],
+        vertices: &[String],
+        mark: &str,
+    ) -> String {
         let from = &vertices[random.below(vertices.len())];
         let to = &vertices[random.below(vertices.len())];
-        let mark = random.pick(&["t", "-"]);
         let mut field = |plain: &str| match random.below(3) {
             // Antecedents that hold let paths grow long.
             0 => plain.to_string(),
@@ -212,6 +268,33 @@ fn leaf(random: &mut Random, atoms: &[String]) -> String {
     atoms[random.below(atoms.len())].clone()
 }
 
+/// Puts an `M` line in: half of them good, which then is 3 but on line 1; on line 1, where
+/// another may follow, on line 2, at the end, where its LF may be missing, or on any line. Or
+/// leaves nothing but an `M` line.
+fn change_mode(random: &mut Random, text: &mut Vec<u8>) {
+    let line = match random.coin() {
+        true => random.pick(&MODES),
+        false => random.pick(&WRONG_MODES),
+    };
+    let mut lines: Vec<&[u8]> = text.split_inclusive(|byte| *byte == b'\n').collect();
+    let place = match random.below(6) {
+        0 | 1 => 0,
+        2 => lines.len().min(1),
+        3 => lines.len(),
+        4 => {
+            lines.clear();
+            0
+        }
+        _ => random.within(0..=lines.len()),
+    };
+    lines.insert(place, line.as_bytes());
+    let is_last = place + 1 == lines.len();
+    *text = lines.concat();
+    if is_last && random.coin() {
+        text.pop();
+    }
+}
+
 /// Changes one record's fields in ways that its shape or meaning may not bear;
 /// with two faults in one line the lower number must decide.
 fn change_record(random: &mut Random, text: &mut Vec<u8>) {
@@ -232,7 +315,7 @@ fn change_field(random: &mut Random, fields: &mut Vec<Vec<u8>>) {
     match random.below(10) {
         0 => drop(fields.remove(field)),
         1 => fields.insert(field, fields[field].clone()),
-        2 => fields[0] = vec![random.pick(b"SKVETsk")],
+        2 => fields[0] = vec![random.pick(b"MSKVETmsk")],
         _ => fields[field] = wrong_field(random, &fields[field]),
     }
 }
@@ -286,9 +369,10 @@ fn without_vertices(random: &mut Random) -> Vec<u8> {
 fn near_size_limit(random: &mut Random) -> Vec<u8> {
     let size = random.within(MAX_GRAPH_BYTES - 1..=MAX_GRAPH_BYTES + 1);
     let name = "fifteen_bytes_x";
-    let mut text = format!("S\t{name}\nV\t{name}\n");
+    let mut text = format!("{}S\t{name}\nV\t{name}\n", mode(random));
+    let mark = random.pick(&["t", "-"]);
     let edge = |antecedent: &str, consequent: &str| {
-        format!("E\t{name}\t{name}\tt\t{antecedent}\t{consequent}\n")
+        format!("E\t{name}\t{name}\t{mark}\t{antecedent}\t{consequent}\n")
     };
     let bare = edge("", "").len();
     while size - text.len() > bare + 500 {
@@ -305,7 +389,8 @@ fn near_size_limit(random: &mut Random) -> Vec<u8> {
     text.into_bytes()
 }
 
-/// A graph whose M is about 4,095, by operators added to a random graph.
+/// A graph whose M is about 4,095, by operators added to a random graph; so M also tells how
+/// many edges were taken for terminal.
 fn near_variable_limit(random: &mut Random) -> Vec<u8> {
     let plan = Plan {
         signals: random.within(0..=63),

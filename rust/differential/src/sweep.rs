@@ -1,9 +1,10 @@
-//! Every change of one byte or one number in a few small inputs, every pair of some
-//! numbers as a tally, sessions of every small kind, and session pages of every small
-//! kind and of the largest.
+//! Every change of one byte or one number in a few small inputs, every short list of some
+//! lines as a graph, every pair of some numbers as a tally, sessions of every small kind,
+//! and session pages of every small kind and of the largest.
 
 use crate::bench::Bench;
 use crate::compare::{Call, Lengths, Memory, Mismatch, Name};
+use crate::graphs::{MODES, WRONG_MODES};
 use crate::pages::{compare_page_into, needed, MAX_CYCLES};
 use crate::rates;
 use crate::sessions::{compare_session, Measurement};
@@ -13,6 +14,9 @@ use reference::Tally;
 /// Has records of every kind, operators of every strength, both marks.
 const GRAPH: &[u8] = b"S\tp\nS\tq_9\nK\tk\nV\ta\nV\tbZ\n\
     E\ta\tbZ\tt\tp=k|q_9\t!(p&1)\nE\tbZ\ta\t-\tp^0\tk\n";
+/// Have an `M` line each, and no mark.
+const TERMINAL: &[u8] = b"M\tterminal\nV\ta\nE\ta\ta\t-\t1\t0\n";
+const STRONG: &[u8] = b"M\tstrong\nV\ta\nE\ta\ta\t-\t1\t0\n";
 const AIGER: &[u8] = b"aag 6 2 3 1 1\n2\n4\n6 5\n8 12 1\n10 10 10\n12\n12 9 4\n";
 const NUMBERS: [u16; 14] = [6, 2, 3, 1, 1, 5, 0, 12, 1, 10, 10, 12, 9, 4];
 const TRACE: &[u8] = b"10\n01\n11\n";
@@ -21,11 +25,20 @@ const HANDLE: &[u8] = b"00\n01\n";
 /// Answers how many calls were compared.
 pub fn sweep(bench: &mut Bench) -> Result<usize, Mismatch> {
     let mut count = 0;
-    for (name, text) in [(Name::Build, GRAPH), (Name::Read, AIGER)] {
+    for (name, text) in [
+        (Name::Build, GRAPH),
+        (Name::Build, TERMINAL),
+        (Name::Build, STRONG),
+        (Name::Read, AIGER),
+    ] {
         for changed in changed_texts(text) {
             sweep_call(bench, Call::on_bytes(name, changed))?;
             count += 1;
         }
+    }
+    for text in lists_of_lines() {
+        sweep_call(bench, Call::on_bytes(Name::Build, text))?;
+        count += 1;
     }
     for changed in changed_texts(TRACE) {
         sweep_call(bench, Call::on_net(Name::Run, NUMBERS.to_vec(), changed))?;
@@ -88,6 +101,41 @@ fn changed_texts(text: &[u8]) -> Vec<Vec<u8>> {
         }
     }
     changed
+}
+
+/// Every list of up to four of some lines: records of each kind, an edge with either mark,
+/// and `M` lines, good and wrong ones, in every place; then each wrong `M` line before,
+/// between and after records. Each list also without its last LF.
+fn lists_of_lines() -> Vec<Vec<u8>> {
+    let lines: Vec<&str> = [
+        &MODES[..],
+        &["M\tweak\n", "S\tp\n", "K\tk\n", "V\ta\n"],
+        &["E\ta\ta\tt\t1\t0\n", "E\ta\ta\t-\t1\t0\n"],
+    ]
+    .concat();
+    let mut lists = vec![String::new()];
+    let mut longer = lists.clone();
+    for _ in 0..4 {
+        longer = longer
+            .iter()
+            .flat_map(|list| lines.iter().map(move |line| format!("{list}{line}")))
+            .collect();
+        lists.extend_from_slice(&longer);
+    }
+    for wrong in WRONG_MODES {
+        for first in ["", MODES[0], MODES[1]] {
+            lists.push(format!("{first}{wrong}V\ta\n"));
+            lists.push(format!("{first}V\ta\n{wrong}E\ta\ta\t-\t1\t0\n"));
+            lists.push(format!("{first}V\ta\n{wrong}"));
+        }
+    }
+    let texts = lists.into_iter().map(String::into_bytes);
+    texts
+        .flat_map(|text| {
+            let cut = text[..text.len().saturating_sub(1)].to_vec();
+            [text, cut]
+        })
+        .collect()
 }
 
 /// The numbers with each of them changed to each that may matter, and cut off.

@@ -66,6 +66,11 @@ pub struct Part {
 }
 
 /// Builds the monitor circuit of a graph text; returns the number of its gates.
+///
+/// Its terminal edges are those with mark `t`, or each edge where none has it. A first line
+/// `M`, tab, `terminal` leaves it at those with `t`; `M`, tab, `strong` makes each edge
+/// terminal. Any other line whose first field is `M` is refused, with 3 if only its place is
+/// wrong, else with 2.
 pub fn build(graph: &[u8], net: &mut [u16]) -> Result<u64, Refusal> {
     let mut gates = 0;
     Refusal::check(raw::build(graph, net, &mut gates))?;

@@ -1,6 +1,6 @@
-//! The safe calls: document 01's graph G, the words of a start, the verdict of each run, the rate
-//! of each tally, the line handed back from each session, the page of each run, empty slices,
-//! refusals.
+//! The safe calls: document 01's graph G, the edges that are terminal, the words of a start, the
+//! verdict of each run, the rate of each tally, the line handed back from each session, the page of
+//! each run, empty slices, refusals.
 
 use ludopoplar::{
     broken_check, broken_line, build, first_broken, per_million, raw, read, run, session_page,
@@ -105,6 +105,78 @@ fn verdict_of_each_run() {
             tally(12, 5)
         )
     );
+}
+
+/// Document 02, No. 5: gates, output literal, and the verdict bytes of a trace.
+fn judged<const N: usize>(graph: &[u8], trace: &[u8]) -> Result<(u64, u16, [u8; N]), Refusal> {
+    let mut net = [5; 100];
+    let gates = build(graph, &mut net)?;
+    let output = net[5 + 2 * usize::from(net[2])];
+    let (mut latches, mut values, mut verdicts) = ([5; 10], [5; 40], [5; N]);
+    let mut tally = Tally::default();
+    start(&net, &mut latches, &mut tally)?;
+    let verdict = run(
+        &net,
+        trace,
+        &mut latches,
+        &mut values,
+        &mut verdicts,
+        &mut tally,
+    )?;
+    assert_eq!(verdict == Verdict::Rejected, verdicts.contains(&1));
+    Ok((gates, output, verdicts))
+}
+
+#[test]
+fn terminal_edges() {
+    const ONE: &[u8] = b"V\ta\nE\ta\ta\t-\t1\t0\n";
+    const TWO: &[u8] = b"V\ta\nE\ta\ta\t-\t1\t0\nE\ta\ta\tt\t1\t1\n";
+    // The last gate is accept where there is a terminal edge.
+    for (mode, records, due) in [
+        (&b""[..], ONE, (8, 22, [1])),
+        (b"M\tterminal\n", ONE, (8, 1, [0])),
+        (b"M\tstrong\n", ONE, (8, 22, [1])),
+        (b"M\tstrong\n", TWO, (18, 46, [1])),
+        (b"M\tterminal\n", TWO, (17, 44, [0])),
+        (b"", TWO, (17, 44, [0])),
+        (b"", b"V\ta\n", (0, 1, [0])),
+        (b"M\tstrong\n", b"V\ta\n", (0, 1, [0])),
+    ] {
+        let graph = [mode, records].concat();
+        let shown = graph.escape_ascii();
+        assert_eq!(judged(&graph, b"1\n"), Ok(due), "{shown}");
+    }
+    let unmarked = b"S\tp\nS\tq\nV\ta\nV\tb\nE\ta\tb\t-\tp\tq\n";
+    for (mode, due) in [
+        (&b""[..], (7, 24, [1, 0, 0])),
+        (b"M\tterminal\n", (7, 1, [0, 0, 0])),
+        (b"M\tstrong\n", (7, 24, [1, 0, 0])),
+    ] {
+        let graph = [mode, unmarked].concat();
+        let shown = graph.escape_ascii();
+        assert_eq!(judged(&graph, b"110\n111\n010\n"), Ok(due), "{shown}");
+    }
+}
+
+#[test]
+fn refused_mode_lines() {
+    let graphs: [(&[u8], (u32, u32)); 8] = [
+        (b"M\tterminal\nM\tterminal\nV\ta\n", (3, 2)),
+        (b"V\ta\nM\tstrong\n", (3, 2)),
+        (b"V\ta\nM\tweak\n", (2, 2)),
+        (b"M\tterminal\nM\tweak\nV\ta\n", (2, 2)),
+        (b"M\nV\ta\n", (2, 1)),
+        (b"M\tstrong", (2, 1)),
+        (b"M\tstrong\n", (10, 0)),
+        (b"M\tstrong\nV\ta\nV\ta\n", (5, 3)),
+    ];
+    for (graph, (number, line)) in graphs {
+        let mut net = [9; 100];
+        let refused = build(graph, &mut net);
+        let shown = graph.escape_ascii();
+        assert_eq!(refused, Err(Refusal { number, line }), "{shown}");
+        assert_eq!(net, [9; 100], "{shown}");
+    }
 }
 
 /// Document 02, No. 8: tallies as cycles and rejected, rates as whole part and remainder.

@@ -23,7 +23,8 @@ pub fn formula_of_gates(graph: &Graph) -> usize {
     let has_incoming = |vertex: &usize| graph.edges.iter().any(|edge| edge.to == *vertex);
     let reached = (0..graph.vertices).filter(has_incoming).count();
     let reached_non_start = (1..graph.vertices).filter(has_incoming).count();
-    let terminal = graph.edges.iter().filter(|edge| edge.terminal).count();
+    let is_terminal = |edge: &&Edge| graph.is_terminal(edge);
+    let terminal = graph.edges.iter().filter(is_terminal).count();
     let operators: usize = graph
         .edges
         .iter()
@@ -196,9 +197,10 @@ impl<'a> Maker<'a> {
 
     /// Part 4: "AND of NOT condemned-now over terminal edges in order; none: literal 1."
     fn accept(&mut self, now: &[Tokens]) -> Literal {
-        let terminal = self.graph.edges.iter().zip(now);
-        terminal
-            .filter(|(edge, _)| edge.terminal)
+        let graph = self.graph;
+        let edges = graph.edges.iter().zip(now);
+        edges
+            .filter(|(edge, _)| graph.is_terminal(edge))
             .map(|(_, tokens)| !tokens.condemned)
             .reduce(|so_far, term| self.and(so_far, term))
             .unwrap_or(Literal::TRUE)
@@ -272,12 +274,38 @@ mod tests {
         assert_eq!(built(&format!("{G},E b b t p 1")).0, 17);
     }
 
+    /// G with `-` for `t`.
+    const UNMARKED: &str = "S p,S q,V a,V b,E a b - p q";
+
     #[test]
     fn no_terminal_edge() {
-        let (_, net) = built("S p,S q,V a,V b,E a b - p q");
-        assert_eq!(net[5 + 2 * 2], 1, "output literal");
-        let (gates, net) = built("V a");
-        assert_eq!((gates, &net[..6]), (0, &[1, 1, 0, 1, 0, 1][..]));
+        let (gates, net) = built(&format!("M terminal,{UNMARKED}"));
+        assert_eq!((gates, net[5 + 2 * 2]), (7, 1), "output literal");
+        let mut due = built(G).1;
+        due[5 + 2 * 2] = 1;
+        assert_eq!(net, due, "nothing else differs from G");
+        for graph in ["V a", "M terminal,V a", "M strong,V a"] {
+            let (gates, net) = built(graph);
+            assert_eq!((gates, &net[..6]), (0, &[1, 1, 0, 1, 0, 1][..]), "{graph}");
+        }
+    }
+
+    #[test]
+    fn no_mark_means_all_edges() {
+        assert_eq!(built(UNMARKED), built(G));
+        assert_eq!(built(&format!("M strong,{UNMARKED}")), built(G));
+        let edges = |marks: [&str; 2]| format!("V a,E a a {} 1 0,E a a {} 1 1", marks[0], marks[1]);
+        let each = built(&edges(["t", "t"]));
+        assert_eq!(each.0, 18);
+        assert_eq!(built(&edges(["-", "-"])), each);
+        let second = built(&edges(["-", "t"]));
+        assert_eq!(second.0, 17);
+        for marks in [["t", "t"], ["-", "t"], ["t", "-"], ["-", "-"]] {
+            assert_eq!(built(&format!("M strong,{}", edges(marks))), each);
+        }
+        assert_eq!(built(&format!("M terminal,{}", edges(["-", "t"]))), second);
+        let none = built(&format!("M terminal,{}", edges(["-", "-"])));
+        assert_eq!((none.0, none.1[5 + 2 * 4]), (17, 1));
     }
 
     #[test]
@@ -299,26 +327,39 @@ mod tests {
         assert_eq!((gates, &net[..due.len()]), (15, &due[..]));
     }
 
+    /// 128 terminal edges cost 127 gates, none cost none.
     #[test]
     fn m_at_and_over_4095() {
-        let bare = Graph::parse(&many_operators(0)).unwrap();
         // Init and the edges' latches stand beside the gates.
-        let fixed = 1 + 2 * 128 + formula_of_gates(&bare);
-        let mut net = vec![0; 8_200];
-        let gates = build(&many_operators(4_095 - fixed), &mut net).unwrap();
-        assert_eq!((net[0], gates), (4_095, 4_095 - 257));
-        let refusal = build(&many_operators(4_096 - fixed), &mut net).unwrap_err();
-        assert_eq!(numbered(refusal), (11, 0));
+        let without_accept = 1 + 2 * 128 + 7 * 128 + 128 + 127;
+        for (mode, mark, accept) in [
+            ("", "t", 127),
+            ("", "-", 127),
+            ("M\tstrong\n", "t", 127),
+            ("M\tstrong\n", "-", 127),
+            ("M\tterminal\n", "t", 127),
+            ("M\tterminal\n", "-", 0),
+        ] {
+            let text = |operators| many_operators(mode, mark, operators);
+            let bare = Graph::parse(&text(0)).unwrap();
+            let fixed = without_accept + accept;
+            assert_eq!(fixed, 257 + formula_of_gates(&bare));
+            let mut net = vec![0; 8_200];
+            let gates = build(&text(4_095 - fixed), &mut net).unwrap();
+            assert_eq!((net[0], gates), (4_095, 4_095 - 257));
+            let refusal = build(&text(4_096 - fixed), &mut net).unwrap_err();
+            assert_eq!(numbered(refusal), (11, 0));
+        }
     }
 
     /// 128 self-loops with this many `&` spread over their formulas.
-    fn many_operators(operators: usize) -> Vec<u8> {
-        let mut text = String::from("V\ta\n");
+    fn many_operators(mode: &str, mark: &str, operators: usize) -> Vec<u8> {
+        let mut text = format!("{mode}V\ta\n");
         let mut left = operators;
         for _ in 0..128 {
             let here = left.min(100);
             left -= here;
-            text += &format!("E\ta\ta\tt\t1{}\t1\n", "&1".repeat(here));
+            text += &format!("E\ta\ta\t{mark}\t1{}\t1\n", "&1".repeat(here));
         }
         text.into_bytes()
     }
@@ -329,13 +370,17 @@ mod tests {
             "V a",
             "V a,E a a t 1 1",
             "V a,V b,E b b - 1 1",
+            "V a,E a a - 1 1,E a a - 1 1,E a a - 1 1",
             "S p,K k,V a,V b,E a b t p^k p=k=p,E a b - 1 p&!k,E b a t p|k 0,E b b - 1 1",
         ] {
-            let parsed = Graph::parse(&graph_text(graph)).unwrap();
-            let gates = built(graph).0;
-            assert_eq!(gates, formula_of_gates(&parsed), "{graph}");
-            let operators = graph.matches(['&', '|', '^', '=']).count();
-            assert!(gates <= 10 * parsed.edges.len() + 3 * operators);
+            for mode in ["", "M terminal,", "M strong,"] {
+                let graph = format!("{mode}{graph}");
+                let parsed = Graph::parse(&graph_text(&graph)).unwrap();
+                let gates = built(&graph).0;
+                assert_eq!(gates, formula_of_gates(&parsed), "{graph}");
+                let operators = graph.matches(['&', '|', '^', '=']).count();
+                assert!(gates <= 10 * parsed.edges.len() + 3 * operators);
+            }
         }
     }
 

@@ -17,11 +17,19 @@ pub enum Atom {
     Constant(usize),
 }
 
+/// The word of an `M` line.
+#[derive(Clone, Copy, Debug, PartialEq, Eq)]
+pub enum Mode {
+    Terminal,
+    Strong,
+}
+
 #[derive(Clone, Debug, PartialEq, Eq)]
 pub struct Edge {
     pub from: usize,
     pub to: usize,
-    pub terminal: bool,
+    /// Whether its mark is `t`. Whether it is terminal, `Graph::is_terminal` says.
+    pub marked: bool,
     pub antecedent: Formula<Atom>,
     pub consequent: Formula<Atom>,
 }
@@ -29,6 +37,8 @@ pub struct Edge {
 /// An assertion graph: vertices by index, the first is the start.
 #[derive(Clone, Debug, PartialEq, Eq)]
 pub struct Graph {
+    /// `None` where the first line is no `M` line.
+    pub mode: Option<Mode>,
     pub signals: usize,
     pub constants: usize,
     pub vertices: usize,
@@ -47,11 +57,23 @@ impl Graph {
             return Err(Cause::NoVertex.no_line());
         }
         Ok(Graph {
+            mode: draft.mode,
             signals: draft.signals.len(),
             constants: draft.constants.len(),
             vertices: draft.vertices.len(),
             edges: draft.edges,
         })
+    }
+
+    /// "A graph in which no edge is `t` shall be judged as if each were: strong acceptance
+    /// in source document 000. For draft sizing, a first line `M`, tab, `terminal` keeps the
+    /// old rule; `M`, tab, `strong` makes each edge terminal."
+    pub fn is_terminal(&self, edge: &Edge) -> bool {
+        match self.mode {
+            Some(Mode::Terminal) => edge.marked,
+            Some(Mode::Strong) => true,
+            None => edge.marked || !self.edges.iter().any(|edge| edge.marked),
+        }
     }
 }
 
@@ -73,7 +95,7 @@ enum Record<'a> {
 struct EdgeFields<'a> {
     from: &'a [u8],
     to: &'a [u8],
-    terminal: bool,
+    marked: bool,
     antecedent: &'a [u8],
     consequent: &'a [u8],
 }
@@ -93,7 +115,7 @@ impl<'a> Record<'a> {
                 Some(Record::Edge(EdgeFields {
                     from,
                     to,
-                    terminal: is_terminal(mark)?,
+                    marked: is_marked(mark)?,
                     antecedent,
                     consequent,
                 }))
@@ -110,8 +132,18 @@ impl<'a> Record<'a> {
     }
 }
 
-/// "Mark `t` is terminal, `-` is not."
-fn is_terminal(mark: &[u8]) -> Option<bool> {
+/// The word of an `M` line. "Another word is 2", as one more field is, or no LF: such a line
+/// has no record's shape either.
+fn mode_of(line: Line) -> Option<Mode> {
+    match (line.bytes, line.ended) {
+        (b"M\tterminal", true) => Some(Mode::Terminal),
+        (b"M\tstrong", true) => Some(Mode::Strong),
+        _ => None,
+    }
+}
+
+/// Whether a mark is `t`; `None` if it is not `-` either.
+fn is_marked(mark: &[u8]) -> Option<bool> {
     match mark {
         b"t" => Some(true),
         b"-" => Some(false),
@@ -122,6 +154,7 @@ fn is_terminal(mark: &[u8]) -> Option<bool> {
 /// The records of the lines read so far.
 #[derive(Default)]
 struct Draft<'a> {
+    mode: Option<Mode>,
     last_kind: Option<Kind>,
     signals: Vec<&'a [u8]>,
     constants: Vec<&'a [u8]>,
@@ -133,6 +166,9 @@ impl<'a> Draft<'a> {
     /// Takes one line in. The checks stand in the order of their numbers, as
     /// in one line the lower number decides.
     fn line(&mut self, line: Line<'a>) -> Result<(), Cause> {
+        if let Some(mode) = mode_of(line) {
+            return self.mode(line.number, mode);
+        }
         let record = Record::parse(line).ok_or(Cause::NoRecord)?;
         let kind = record.kind();
         if Some(kind) < self.last_kind {
@@ -149,6 +185,16 @@ impl<'a> Draft<'a> {
             }
         }
         self.last_kind = Some(kind);
+        Ok(())
+    }
+
+    /// "A first line `M`"; "another `M` line is 3". It is no record: kinds, counts and names
+    /// begin after it.
+    fn mode(&mut self, line_number: u32, mode: Mode) -> Result<(), Cause> {
+        if line_number != 1 {
+            return Err(Cause::KindOutOfOrder);
+        }
+        self.mode = Some(mode);
         Ok(())
     }
 
@@ -191,7 +237,7 @@ impl<'a> Draft<'a> {
         Ok(Edge {
             from,
             to,
-            terminal: fields.terminal,
+            marked: fields.marked,
             antecedent: antecedent.formula.resolve(&look_up)?,
             consequent: consequent.formula.resolve(&look_up)?,
         })
@@ -231,10 +277,152 @@ mod tests {
         let graph = accepted("S p,K k,V a,V b,E a b t p k,E b b - 1 !p");
         assert_eq!((graph.signals, graph.constants, graph.vertices), (1, 1, 2));
         let edge = &graph.edges[0];
-        assert_eq!((edge.from, edge.to, edge.terminal), (0, 1, true));
+        assert_eq!((edge.from, edge.to, edge.marked), (0, 1, true));
         assert_eq!(edge.antecedent, Formula::Name(Atom::Signal(0)));
         assert_eq!(edge.consequent, Formula::Name(Atom::Constant(0)));
-        assert!(!graph.edges[1].terminal);
+        assert!(!graph.edges[1].marked);
+    }
+
+    /// Which edges of a graph are terminal.
+    fn terminal(graph: &str) -> Vec<bool> {
+        let graph = accepted(graph);
+        let edges = graph.edges.iter();
+        edges.map(|edge| graph.is_terminal(edge)).collect()
+    }
+
+    /// Graphs of up to three edges with every choice of marks, under each rule.
+    #[test]
+    fn terminal_edges() {
+        for edges in 0..=3 {
+            for choice in 0..1 << edges {
+                let marked: Vec<bool> = (0..edges).map(|edge| choice >> edge & 1 == 1).collect();
+                let lines: String = marked
+                    .iter()
+                    .map(|marked| format!(",E a a {} 1 0", if *marked { "t" } else { "-" }))
+                    .collect();
+                let each = vec![true; edges];
+                let unless_none = if choice == 0 { &each } else { &marked };
+                assert_eq!(terminal(&format!("V a{lines}")), *unless_none);
+                assert_eq!(terminal(&format!("M terminal,V a{lines}")), marked);
+                assert_eq!(terminal(&format!("M strong,V a{lines}")), each);
+            }
+        }
+    }
+
+    #[test]
+    fn mode_lines() {
+        assert_eq!(accepted("V a").mode, None);
+        assert_eq!(accepted("M terminal,V a").mode, Some(Mode::Terminal));
+        assert_eq!(accepted("M strong,S p,V a").mode, Some(Mode::Strong));
+        for wrong in [
+            "M",
+            "M ",
+            "M  ",
+            "M weak",
+            "M t",
+            "M -",
+            "M M",
+            "M Strong",
+            "M STRONG",
+            "M stron",
+            "M strongs",
+            "M strong ",
+            "M strong x",
+            "M terminal strong",
+            "M  strong",
+            "M terminal\r",
+            "M terminal\0",
+            "M\u{b}strong",
+            "Mstrong",
+            "MM strong",
+            "m strong",
+            " M strong",
+            "strong",
+            "terminal M",
+        ] {
+            assert_eq!(refused(&format!("{wrong},V a")), (2, 1), "{wrong:?}");
+            assert_eq!(refused(&format!("V a,{wrong}")), (2, 2), "{wrong:?}");
+            let second = format!("M strong,{wrong},V a");
+            assert_eq!(refused(&second), (2, 2), "{wrong:?}");
+        }
+        for text in [
+            &b"M"[..],
+            b"M\t",
+            b"M\tstrong",
+            b"M\tterminal",
+            b"M\tterminal\r",
+            b"M strong\n",
+        ] {
+            let refusal = Graph::parse(text).unwrap_err();
+            assert_eq!(numbered(refusal), (2, 1), "{}", text.escape_ascii());
+        }
+        let late = Graph::parse(b"V\ta\nM\tstrong").unwrap_err();
+        assert_eq!(numbered(late), (2, 2));
+    }
+
+    /// After a record of each kind, at the end, and after another `M` line.
+    #[test]
+    fn mode_lines_in_another_place() {
+        let records = ["S p", "K k", "V a", "E a a t 1 1"];
+        for mode in ["M terminal", "M strong"] {
+            for before in 1..=records.len() {
+                let mut lines = records.to_vec();
+                lines.insert(before, mode);
+                assert_eq!(refused(&lines.join(",")), (3, before as u32 + 1));
+                for first in ["M terminal", "M strong"] {
+                    let graph = format!("{first},{}", lines.join(","));
+                    assert_eq!(refused(&graph), (3, before as u32 + 2));
+                }
+            }
+            for first in ["M terminal", "M strong"] {
+                assert_eq!(refused(&format!("{first},{mode},V a")), (3, 2));
+                assert_eq!(refused(&format!("{first},{mode},{mode}")), (3, 2));
+            }
+        }
+        // Line 1 is the first line of the text, also where that is no record.
+        assert_eq!(refused(",M strong,V a"), (2, 1));
+        assert_eq!(refused("X,M strong,V a"), (2, 1));
+    }
+
+    /// The other rules see the lines after it alone, but for their numbers and its bytes.
+    #[test]
+    fn rules_after_a_mode_line() {
+        for mode in ["M terminal", "M strong"] {
+            let refused = |graph: &str| refused(&format!("{mode},{graph}"));
+            assert_eq!(refused("S p,K k"), (10, 0));
+            assert_eq!(refused("V a,S p"), (3, 3));
+            assert_eq!(refused("K k,S p,V a"), (3, 3));
+            assert_eq!(refused("S a,S a,V a"), (5, 3));
+            assert_eq!(refused("V a,E a b - 1 1"), (6, 3));
+            assert_eq!(refused("V a,E a a - 10 1"), (7, 3));
+            assert_eq!(refused("V a,E a a - p 1"), (9, 3));
+            for mark in ["", "T", "M", "tt", "strong"] {
+                assert_eq!(refused(&format!("V a,E a a {mark} 1 1")), (2, 3));
+            }
+            let edges = |count: usize| format!("V a{}", ",E a a - 1 1".repeat(count));
+            let most = accepted(&format!("{mode},{}", edges(128)));
+            assert_eq!(most.edges.len(), 128);
+            assert_eq!(refused(&edges(129)), (4, 131));
+            let vertices: String = (0..65).map(|at| format!(",V v{at}")).collect();
+            assert_eq!(refused(&vertices[1..]), (4, 66));
+            let signals: String = (0..64).map(|at| format!(",S s{at}")).collect();
+            assert_eq!(refused(&signals[1..]), (4, 65));
+        }
+        assert_eq!(refused("M terminal"), (10, 0));
+        assert_eq!(refused("M strong"), (10, 0));
+        let long = |size: usize| [&b"M\tstrong\n"[..], &vec![b'\n'; size - 9]].concat();
+        let refusal = |size| numbered(Graph::parse(&long(size)).unwrap_err());
+        assert_eq!(refusal(32_768), (2, 2));
+        assert_eq!(refusal(32_769), (1, 0));
+    }
+
+    /// `M` is a name like any other.
+    #[test]
+    fn things_named_m() {
+        assert_eq!(terminal("S M,V M,E M M - M M"), [true]);
+        assert_eq!(terminal("M strong,S M,V M,E M M - M M"), [true]);
+        assert_eq!(terminal("M terminal,K M,V M,E M M - M M"), [false]);
+        assert_eq!(accepted("S terminal,V strong").signals, 1);
     }
 
     #[test]

@@ -1,6 +1,6 @@
-//! Document 01, as No. 2 of document 02 changes it, and Nos. 8, 9 and 12 of document 02,
-//! once more in plain safe Rust, written from their sentences alone; and what the program
-//! `sheet` prints.
+//! Document 01, as Nos. 2 and 5 of document 02 change it, and Nos. 8, 9 and 12 of
+//! document 02, once more in plain safe Rust, written from their sentences alone; and what
+//! the program `sheet` prints.
 //!
 //! Nothing here is proved and nothing is meant to be fast: each module follows
 //! the documents' wording closely enough to be read beside it. The proved
@@ -27,7 +27,7 @@ pub use aiger::{read, write};
 pub use broken::{broken_check, first_broken, Part, Trace};
 pub use builder::{build, formula_of_gates};
 pub use formula::{Formula, Operator};
-pub use graph::{Atom, Edge, Graph};
+pub use graph::{Atom, Edge, Graph, Mode};
 pub use netlist::{Gate, Header, Latch, Literal, Netlist, Reset, Variable};
 pub use page::session_page;
 pub use paths::rejected_cycles;

@@ -52,7 +52,7 @@ fn follow(graph: &Graph, reached: &BTreeSet<Reached>, moment: Moment) -> (BTreeS
                     vertex: edge.to,
                     condemned,
                 });
-                ends_badly |= condemned && edge.terminal;
+                ends_badly = ends_badly || condemned && graph.is_terminal(edge);
             }
         }
     }
@@ -113,10 +113,10 @@ mod tests {
         longer
     }
 
-    fn is_rejecting(path: &Path, cycles: &[&[u8]], setting: usize) -> bool {
+    fn is_rejecting(graph: &Graph, path: &Path, cycles: &[&[u8]], setting: usize) -> bool {
         let moments = || cycles.iter().map(|cycle| Moment { cycle, setting });
         let mut edges = path.iter().zip(moments());
-        path.last().is_some_and(|edge| edge.terminal)
+        path.last().is_some_and(|edge| graph.is_terminal(edge))
             && edges.all(|(edge, moment)| moment.judge(&edge.antecedent))
             && path
                 .iter()
@@ -132,7 +132,8 @@ mod tests {
                 latest_init.is_some_and(|init| {
                     let span = &cycles[init..=asked];
                     paths(graph, span.len()).iter().any(|path| {
-                        (0..1 << graph.constants).any(|setting| is_rejecting(path, span, setting))
+                        (0..1 << graph.constants)
+                            .any(|setting| is_rejecting(graph, path, span, setting))
                     })
                 })
             })
@@ -154,6 +155,27 @@ mod tests {
         let constant = "S p,K k,V a,E a a t k p";
         assert_eq!(rejected(constant, "10"), [true]);
         assert_eq!(rejected(constant, "11"), [false]);
+    }
+
+    #[test]
+    fn no_mark_means_all_edges() {
+        let unmarked = "S p,S q,V a,V b,E a b - p q";
+        let trace = "110,111,010";
+        assert_eq!(rejected(unmarked, trace), [true, false, false]);
+        let strong = format!("M strong,{unmarked}");
+        assert_eq!(rejected(&strong, trace), [true, false, false]);
+        let terminal = format!("M terminal,{unmarked}");
+        assert_eq!(rejected(&terminal, trace), [false, false, false]);
+        // A path is judged by its last edge: the loop's, of which nothing is asked.
+        let chain =
+            |marks: [&str; 2]| format!("V a,V b,E a b {} 1 0,E b b {} 1 1", marks[0], marks[1]);
+        let rejected = |mode: &str, marks| rejected(&format!("{mode}{}", chain(marks)), "1,0,0");
+        assert_eq!(rejected("", ["-", "-"]), [true, true, true]);
+        assert_eq!(rejected("", ["-", "t"]), [false, true, true]);
+        assert_eq!(rejected("", ["t", "-"]), [true, false, false]);
+        assert_eq!(rejected("M terminal,", ["-", "-"]), [false; 3]);
+        assert_eq!(rejected("M terminal,", ["-", "t"]), [false, true, true]);
+        assert_eq!(rejected("M strong,", ["-", "t"]), [true, true, true]);
     }
 
     /// A tiny xorshift, for graphs and cycles of the test below.
@@ -178,10 +200,17 @@ mod tests {
 
     fn small_graph(random: &mut Random) -> String {
         let vertices = ["a", "b", "c"];
-        let mut graph = String::from("S p,S q,K k,K j,V a,V b,V c");
+        let mode = random.one_of(&["", "", "M terminal,", "M strong,"]);
+        let mut graph = format!("{mode}S p,S q,K k,K j,V a,V b,V c");
+        // In every third graph no edge is marked.
+        let marks = if random.below(3) == 0 {
+            ["-", "-"]
+        } else {
+            ["t", "-"]
+        };
         for _ in 0..random.below(6) {
             let (from, to) = (random.one_of(&vertices), random.one_of(&vertices));
-            let mark = random.one_of(&["t", "-"]);
+            let mark = random.one_of(&marks);
             let (a, c) = (random.one_of(&FORMULAS), random.one_of(&FORMULAS));
             graph += &format!(",E {from} {to} {mark} {a} {c}");
         }

@@ -112,6 +112,35 @@ mod tests {
         assert_eq!(sheet(&[always, trace].concat()), page(&eleven));
     }
 
+    /// The `M` line is the graph's first: it stands after the name.
+    #[test]
+    fn pages_with_a_mode_line() {
+        let unmarked = "S p,S q,V a,V b,E a b - p q";
+        let trace = "110,111,010";
+        let rejected = page(&[
+            "M                                3",
+            "       1",
+            "         1 333333         1",
+        ]);
+        let accepted = page(&[
+            "M                                3",
+            "         0      0         0",
+        ]);
+        for (mode, due) in [
+            ("", &rejected),
+            ("M terminal,", &accepted),
+            ("M strong,", &rejected),
+        ] {
+            let graph = format!("{mode}{unmarked}");
+            assert_eq!(sheet(&input("M", &graph, trace)), *due, "{mode}");
+        }
+        assert_eq!(sheet(b"M\tterminal\nV\ta\n"), refused(22, 0));
+        assert_eq!(sheet(b"M\nV\ta\nM\tterminal\n"), refused(3, 2));
+        assert_eq!(sheet(b"M\nM\tterminal\nM\tterminal\n"), refused(3, 2));
+        assert_eq!(sheet(b"M\nM\tweak\n"), refused(2, 1));
+        assert_eq!(sheet(b"M\nM\tterminal\nT\n"), refused(10, 0));
+    }
+
     #[test]
     fn longest_page() {
         let head = [b"G\n", ALWAYS, b"T\n"].concat();

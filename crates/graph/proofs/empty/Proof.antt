@@ -1,11 +1,12 @@
 -- `graph::empty` meets its contract. Assumes nothing.
 use mathlib.Core.Path.{refl}
-use Rattle.graph.specs.Held.{heldOf, namePlaces, arcsOf, filled}
+use Rattle.graph.specs.Reading.{modeLines}
+use Rattle.graph.specs.Held.{heldAs, namePlaces, arcsOf, filled}
 use Rattle.graph.proofs.empty.Statement.{statement}
 use Rattle.graph.proofs.empty.Tie as tie
 
 returns : tie.Need-returns
-unfolding heldOf namePlaces arcsOf filled
+unfolding modeLines heldAs namePlaces arcsOf filled
 returns c = λ text. refl
 
 pub empty-spec : {M : Type 1} → statement M

@@ -11,8 +11,11 @@ refuse-requires c κs = search needs
 returns : tie.Need-returns
 returns c = λ text graph h. c .refuse .ensures text ∙ finish-none text _ graph h (c .before .if1 .taken)
 
+choose-requires : tie.Need-choose-requires
+choose-requires c κs = search needs
+
 returns-2 : tie.Need-returns-2
-returns-2 c = λ text graph h. finish-some text _ graph h (c .if1 .left)
+returns-2 c = λ text graph h. finish-some text _ graph h (c .before .if1 .left) (c .choose .ensures)
 
 pub finish-spec : {M : Type 1} → statement M
-finish-spec = tie.close (tie.spec refuse-requires returns returns-2)
+finish-spec = tie.close (tie.spec refuse-requires returns choose-requires returns-2)

@@ -88,7 +88,9 @@ loop-again c =
     (l .inv .0, omega arith, omega arith, going-next t (l .g) (l .at) (l .line) i (e .end-at .ensures .0) (omega (arith, e .end-at .ensures .2, x .before .if2 .left)) (x .add-line .ensures (i .graph) (going-holds t (l .g) (l .at) (l .line) i) (i .start)) (c .before .enum-told .given .1))
 
 finish-requires : tie.Need-finish-requires Inv-loop μ-loop
-finish-requires c κs = search needs
+finish-requires c κs =
+    let l = c .before .loop in
+    going-kept (c .before .before .before .before .before .args .text .now) (l .g) (l .at) (l .line) (l .inv .3)
 
 returns-4 : tie.Need-returns-4 Inv-loop μ-loop
 returns-4 c =

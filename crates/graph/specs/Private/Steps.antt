@@ -1,16 +1,19 @@
 -- What the private functions of the reader promise. Assumes nothing.
 use Prim.Native.Nat.{ℕ, _+_, _-_, _≤_, _/_, _%_}
 use mathlib.Core.Path.{_≡_}
-use mathlib.Core.Bool.{Bool, true, false}
-use mathlib.Core.List.{List, [], _∷_, map}
+use mathlib.Core.Bool.{Bool, true, false, not, cond}
+use mathlib.Core.List.{List, [], _∷_, _++_, map}
 use lib.Dec.{ltb}
 use lib.ListN.{length, take, drop, set}
 use Rattle.formula.specs.Classes.{pick}
+use Rattle.assertion.specs.Lists.{any}
 use Rattle.assertion.specs.Graph.{Bytes, Graph}
+use Rattle.assertion.specs.declared.Mode.{Mode}
+use Rattle.assertion.specs.declared.Mode.the-variants.{Unsaid, Terminal, Strong}
 use Rattle.graph.specs.Pieces.{endAt, pieceAt, lookUp}
-use Rattle.graph.specs.Records.{Record, shapeless, signal, constant, vertex, edge, marked, edged, recordOf}
-use Rattle.graph.specs.Reading.{Step, fault, went, namesOf, judgedFormula, lower, judgeEdge, addEdge, add}
-use Rattle.graph.specs.Held.{lineStart, lineOf, fieldStart, fieldAt, fieldLength, namePlaces, heldOf}
+use Rattle.graph.specs.Records.{Record, shapeless, mode, signal, constant, vertex, edge, marked, edged, recordOf}
+use Rattle.graph.specs.Reading.{Step, fault, went, modeLines, addMode, namesOf, judgedFormula, lower, judgeEdge, addEdge, add}
+use Rattle.graph.specs.Held.{lineStart, lineOf, fieldStart, fieldAt, fieldLength, namePlaces, heldAs}
 use Rattle.graph.specs.declared.Fault.{Fault}
 use Rattle.graph.specs.declared.Judged.{Judged}
 use Rattle.graph.specs.declared.Judged.the-variants.{Fine, Faulty}
@@ -41,6 +44,7 @@ wordsKnown ns s (w ∷ ws) = pick (wordKnown ns s w) (wordsKnown ns s ws) false
 -- the record of a line by the places of its fields
 unfoldable pub viewed : Bytes → Shape → Record
 viewed line shape.Wrong = shapeless
+viewed line (shape.Moded m) = mode m
 viewed line (shape.Signal p) = signal (drop p line)
 viewed line (shape.Constant p) = constant (drop p line)
 viewed line (shape.Vertex p) = vertex (drop p line)
@@ -54,6 +58,7 @@ FieldOf line k p = (p ≤ length line) × (p ≡ fieldStart line k)
 -- a name is field 1, and the formulas are fields 4 and 5
 abbrev pub Placed : Bytes → Shape → Type 0
 Placed line shape.Wrong = Unit {0}
+Placed line (shape.Moded m) = Unit {0}
 Placed line (shape.Signal p) = FieldOf line 1 p
 Placed line (shape.Constant p) = FieldOf line 1 p
 Placed line (shape.Vertex p) = FieldOf line 1 p
@@ -76,13 +81,17 @@ abbrev pub namedOf : Graph → ℕ
 namedOf graph = length (graph .signals) + length (graph .constants)
 
 abbrev pub recordsOf : Graph → ℕ
-recordsOf graph = namedOf graph + length (graph .vertices) + length (graph .edges)
+recordsOf graph = modeLines (graph .mode) + namedOf graph + length (graph .vertices) + length (graph .edges)
+
+-- the arrays of the lines read so far: until all are read, the edges with the mark are the terminal ones
+abbrev pub writtenOf : Bytes → Graph → CheckedGraph
+writtenOf text graph = heldAs (λ e. e .marked) text graph
 
 -- the arrays hold a graph, whose names stand in the text where they say
 pub record Holds (text : Bytes) (g : CheckedGraph) (graph : Graph) : Type 0 where
-  pub arrays : g ≡ heldOf text graph
-  pub names : held text (namePlaces text 0 (namedOf graph)) ≡ namesOf graph
-  pub points : held text (namePlaces text (namedOf graph) (length (graph .vertices))) ≡ graph .vertices
+  pub arrays : g ≡ writtenOf text graph
+  pub names : held text (namePlaces text (modeLines (graph .mode)) (namedOf graph)) ≡ namesOf graph
+  pub points : held text (namePlaces text (modeLines (graph .mode) + namedOf graph) (length (graph .vertices))) ≡ graph .vertices
 
 -- the counts keep to the limits
 pub record Kept (g : CheckedGraph) : Type 0 where
@@ -109,7 +118,7 @@ arcFrom line at from to m a c =
     record {
       from = from;
       to = to;
-      marked = m;
+      terminal = m;
       left = at + a;
       lefts = endAt 9 line a - a;
       right = at + c;
@@ -136,9 +145,13 @@ faultyOf g f = record { judged = Faulty f; graph = g }
 
 unfoldable pub addedOf : Bytes → CheckedGraph → Step → Added
 addedOf text g (fault f) = faultyOf g f
-addedOf text g (went graph) = record { judged = Fine; graph = heldOf text graph }
+addedOf text g (went graph) = record { judged = Fine; graph = writtenOf text graph }
 
--- what a step promises of its answer r, whichever graph the arrays g hold: of a name at p
+-- what a step promises of its answer r, whichever graph the arrays g hold: of a mode
+abbrev pub AddsMode : CheckedGraph → Mode → Added → Type 0
+AddsMode g m r = (text : Bytes) (graph : Graph) → Holds text g graph → r ≡ addedOf text g (addMode graph m)
+
+-- of a name at p
 abbrev pub AddsName : Bytes → CheckedGraph → ℕ → (Graph → Bytes → Step) → Added → Type 0
 AddsName text g p step r =
     (graph : Graph) → Holds text g graph → p ≡ fieldAt text (recordsOf graph) 1 → r ≡ addedOf text g (step graph (pieceAt 10 text p))
@@ -146,7 +159,7 @@ AddsName text g p step r =
 -- of an edge whose vertices are known
 abbrev pub AddsArc : Bytes → CheckedGraph → Arc → Added → Type 0
 AddsArc text g e r =
-    (graph : Graph) → Holds text g graph → ArcAt text (recordsOf graph) e → r ≡ addedOf text g (judgeEdge graph (e .from) (e .to) (e .marked) (leftOf text e) (rightOf text e))
+    (graph : Graph) → Holds text g graph → ArcAt text (recordsOf graph) e → r ≡ addedOf text g (judgeEdge graph (e .from) (e .to) (e .terminal) (leftOf text e) (rightOf text e))
 
 -- of an edge by the places of its fields in its line
 abbrev pub AddsEdge : Bytes → CheckedGraph → Bytes → ℕ → ℕ → ℕ → Bool → ℕ → ℕ → Added → Type 0
@@ -159,9 +172,23 @@ AddsLine text g at r =
     (graph : Graph) → Holds text g graph → at ≡ lineStart text (recordsOf graph) → r ≡ addedOf text g (add graph (recordOf (lineOf text (recordsOf graph))))
 
 -- ---- the arrays with one more record
+abbrev pub withMode : CheckedGraph → Mode → CheckedGraph
+withMode g m =
+    record {
+      mode = m;
+      signals = g .signals;
+      constants = g .constants;
+      vertices = g .vertices;
+      edges = g .edges;
+      names = g .names;
+      points = g .points;
+      arcs = g .arcs;
+    }
+
 abbrev pub withSignal : CheckedGraph → ℕ → CheckedGraph
 withSignal g p =
     record {
+      mode = g .mode;
       signals = g .signals + 1;
       constants = g .constants;
       vertices = g .vertices;
@@ -174,6 +201,7 @@ withSignal g p =
 abbrev pub withConstant : CheckedGraph → ℕ → CheckedGraph
 withConstant g p =
     record {
+      mode = g .mode;
       signals = g .signals;
       constants = g .constants + 1;
       vertices = g .vertices;
@@ -186,6 +214,7 @@ withConstant g p =
 abbrev pub withVertex : CheckedGraph → ℕ → CheckedGraph
 withVertex g p =
     record {
+      mode = g .mode;
       signals = g .signals;
       constants = g .constants;
       vertices = g .vertices + 1;
@@ -198,6 +227,7 @@ withVertex g p =
 abbrev pub withEdge : CheckedGraph → Arc → CheckedGraph
 withEdge g e =
     record {
+      mode = g .mode;
       signals = g .signals;
       constants = g .constants;
       vertices = g .vertices;
@@ -206,3 +236,42 @@ withEdge g e =
       points = g .points;
       arcs = set (g .arcs) (g .edges) e;
     }
+
+-- ---- the terminal edges chosen, when all lines are read
+-- the first n arcs terminal
+abbrev pub madeTerminal : Arc → Arc
+madeTerminal a =
+    record {
+      from = a .from;
+      to = a .to;
+      terminal = true;
+      left = a .left;
+      lefts = a .lefts;
+      right = a .right;
+      rights = a .rights;
+    }
+
+abbrev pub allTerminal : ℕ → List Arc → List Arc
+allTerminal n arcs = map madeTerminal (take n arcs) ++ drop n arcs
+
+abbrev pub withArcs : CheckedGraph → List Arc → CheckedGraph
+withArcs g arcs =
+    record {
+      mode = g .mode;
+      signals = g .signals;
+      constants = g .constants;
+      vertices = g .vertices;
+      edges = g .edges;
+      names = g .names;
+      points = g .points;
+      arcs = arcs;
+    }
+
+-- each edge is terminal, whether marked or not
+unfoldable pub eachTerminal : Mode → List Arc → Bool
+eachTerminal Unsaid arcs = not (any (λ a. a .terminal) arcs)
+eachTerminal Terminal arcs = false
+eachTerminal Strong arcs = true
+
+abbrev pub chosenIn : CheckedGraph → CheckedGraph
+chosenIn g = cond (eachTerminal (g .mode) (take (g .edges) (g .arcs))) (withArcs g (allTerminal (g .edges) (g .arcs))) g

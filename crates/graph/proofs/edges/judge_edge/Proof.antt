@@ -17,7 +17,7 @@ returns : tie.Need-returns
 returns c =
     let j = c .before .before .before .before in
     let s = j .before .before in
-    λ graph h w. rw (c .faulty .ensures) (edge-fault (s .args .text .now) (s .args .g) graph h (s .args .e .from) (s .args .e .to) (s .args .e .marked) _ _ (j .judge-both .ensures) (c .before .before .judged .given .1))
+    λ graph h w. rw (c .faulty .ensures) (edge-fault (s .args .text .now) (s .args .g) graph h (s .args .e .from) (s .args .e .to) (s .args .e .terminal) _ _ (j .judge-both .ensures) (c .before .before .judged .given .1))
 
 enum-told : tie.Need-enum-told
 enum-told c = search needs

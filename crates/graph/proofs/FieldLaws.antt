@@ -1,22 +1,25 @@
 -- The fields of a line's record, by their places in the text. Assumes nothing.
-use Prim.Native.Nat.{ℕ, suc, _+_, _≤_, _<_}
+use Prim.Native.Nat.{ℕ, suc, _+_, _-_, _≤_, _<_}
 use mathlib.Core.Path.{_≡_, refl, sym, ap, _∙_}
-use mathlib.Core.Bool.{Bool, true, false}
+use mathlib.Core.Bool.{Bool, true, false, cond}
 use mathlib.Core.List.{List, [], _∷_}
+use native.Mathlib.Nat.{add-zero}
 use native.Mathlib.Omega.{arith}
+use borrow.Author.Tests.{eqb-true}
 use native.Mathlib.Decide.{decLt}
-use lib.ListN.{length, take, drop}
-use lib.Seq.{length-take-le}
+use lib.Dec.{eqb}
+use lib.ListN.{length, getD, take, drop, length-take, length-drop}
+use lib.Seq.{length-take-le, getD-take, getD-drop}
 use Rattle.formula.specs.Classes.{pick, isName}
 use Rattle.text.specs.Quoted.{bytes}
 use Rattle.assertion.specs.Graph.{Bytes}
 use Rattle.assertion.specs.declared.Mode.the-variants.{Terminal, Strong}
 use Rattle.graph.specs.Pieces.{split, upTo, endAt, pieceAt, same}
 use Rattle.graph.specs.Records.{Record, shapeless, mode, signal, constant, vertex, edge, moded, named, marked, edged, ofFields, recordOf}
-use Rattle.graph.specs.Reading.{modeLines}
-use Rattle.graph.specs.Claims.{FormulaAt}
+use Rattle.graph.specs.Claims.{FormulaAt, MarkAt}
 use Rattle.graph.specs.Held.{lineStart, lineOf, fieldStart, fieldAt, fieldLength}
 use Rattle.graph.proofs.PieceLaws.{split-cut, split-last, split-some, piece-in, piece-last}
+use Rattle.graph.proofs.SplitLaws.{same-equal}
 use Rattle.graph.proofs.EdgeLaws.{field-in, up-to-inside}
 
 -- ---- the pieces from a place on
@@ -47,15 +50,43 @@ field-zero : (line : Bytes) → drop (fieldStart line 0) line ≡ line
 unfolding fieldStart
 field-zero line = refl
 
+-- ---- the end of a field, and a field of one byte
+up-to-byte : (b : ℕ) (s : Bytes) → upTo b s < length s → getD s (upTo b s) 0 ≡ b
+unfolding upTo
+up-to-byte b [] h = absurd (omega arith)
+up-to-byte b (c ∷ s) h = by (eqb c b) refl (up-to-byte b s) h
+  where
+    by : (t : Bool) → eqb c b ≡ t → (upTo b s < length s → getD s (upTo b s) 0 ≡ b) → upTo b (c ∷ s) < suc (length s) → getD (c ∷ s) (upTo b (c ∷ s)) 0 ≡ b
+    by true e ih l = rw (upTo, e) (eqb-true c b e)
+    by false e ih l = let u : upTo b (c ∷ s) ≡ suc (upTo b s) = rw (upTo, e) in rw u (ih (omega arith))
+
+end-byte : (b : ℕ) (s : Bytes) (p : ℕ) → endAt b s p < length s → getD s (endAt b s p) 0 ≡ b
+unfolding endAt
+end-byte b s p h =
+    let n : upTo b (drop p s) < length (drop p s) = omega (arith, length-drop p s) in
+    sym (getD-drop p s (upTo b (drop p s)) 0) ∙ up-to-byte b (drop p s) n
+
+one-long : (line : Bytes) (p : ℕ) {b : ℕ} → pieceAt 9 line p ≡ b ∷ [] → endAt 9 line p ≡ p + 1
+unfolding endAt pieceAt
+one-long line p e = omega (arith, ap length e, length-take-le (upTo 9 (drop p line)) (drop p line) (up-to-inside 9 (drop p line)))
+
+one-byte : (line : Bytes) (p : ℕ) {b : ℕ} → pieceAt 9 line p ≡ b ∷ [] → getD line p 0 ≡ b
+unfolding pieceAt
+one-byte line p {b} e =
+    let n = upTo 9 (drop p line) in
+    let l : 0 < n = omega (arith, ap length e, length-take n (drop p line)) in
+    let z : p + 0 ≡ p = add-zero p in
+    sym (ap (λ (i : ℕ). getD line i 0) z) ∙ sym (getD-drop p line 0 0) ∙ sym (getD-take n (drop p line) 0 0 l) ∙ ap (λ (x : Bytes). getD x 0 0) e
+
 -- ---- a record whose fields stand in line k of a text
 abbrev pub Fits : Bytes → ℕ → Record → Type 0
 Fits text k shapeless = Unit {0}
-Fits text k (mode m) = modeLines m ≡ 1
+Fits text k (mode m) = Unit {0}
 Fits text k (signal n) = pieceAt 10 text (fieldAt text k 1) ≡ n
 Fits text k (constant n) = pieceAt 10 text (fieldAt text k 1) ≡ n
 Fits text k (vertex n) = pieceAt 10 text (fieldAt text k 1) ≡ n
 Fits text k (edge f t m a c) =
-    FormulaAt text (fieldAt text k 4) (fieldLength (lineOf text k) 4) a × FormulaAt text (fieldAt text k 5) (fieldLength (lineOf text k) 5) c
+    FormulaAt text (fieldAt text k 4) (fieldLength (lineOf text k) 4) a × FormulaAt text (fieldAt text k 5) (fieldLength (lineOf text k) 5) c × MarkAt text (fieldAt text k 4) m
 
 module _ (text : Bytes) (k : ℕ) where
   pick-fits : (t : Bool) (x y : Record) → Fits text k x → Fits text k y → Fits text k (pick t x y)
@@ -63,19 +94,23 @@ module _ (text : Bytes) (k : ℕ) where
   pick-fits false x y h g = g
 
   named-fits : (kind n : Bytes) → pieceAt 10 text (fieldAt text k 1) ≡ n → Fits text k (named kind n)
-  unfolding named moded modeLines
+  unfolding named moded
   named-fits kind n h =
-      pick-fits (same kind (77 ∷ [])) _ _ (pick-fits (same n (bytes "terminal")) (mode Terminal) _ refl (pick-fits (same n (bytes "strong")) (mode Strong) shapeless refl tt))
+      pick-fits (same kind (77 ∷ [])) _ _ (pick-fits (same n (bytes "terminal")) (mode Terminal) _ tt (pick-fits (same n (bytes "strong")) (mode Strong) shapeless tt tt))
       (pick-fits (isName n) _ shapeless
       (pick-fits (same kind (83 ∷ [])) (signal n) _ h (pick-fits (same kind (75 ∷ [])) (constant n) _ h (pick-fits (same kind (86 ∷ [])) (vertex n) shapeless h tt))) tt)
 
-  edged-fits : (kind f t m a c : Bytes) → Fits text k (edge f t true a c) → Fits text k (edged kind f t m a c)
+  pick-fits-so : (t : Bool) (x y : Record) → (t ≡ true → Fits text k x) → Fits text k y → Fits text k (pick t x y)
+  pick-fits-so true x y h g = h refl
+  pick-fits-so false x y h g = g
+
+  edged-fits : (kind f t m a c : Bytes) → ((b : Bool) → same m (cond b 116 45 ∷ []) ≡ true → Fits text k (edge f t b a c)) → Fits text k (edged kind f t m a c)
   unfolding edged marked
   edged-fits kind f t m a c h =
       pick-fits (same kind (69 ∷ [])) _ shapeless
       (pick-fits (isName f) _ shapeless
       (pick-fits (isName t) _ shapeless
-      (pick-fits (same m (116 ∷ [])) (edge f t true a c) _ h (pick-fits (same m (45 ∷ [])) (edge f t false a c) shapeless h tt)) tt) tt) tt
+      (pick-fits-so (same m (116 ∷ [])) (edge f t true a c) _ (h true) (pick-fits-so (same m (45 ∷ [])) (edge f t false a c) shapeless (h false) tt)) tt) tt) tt
 
   abbrev line : Bytes
   line = lineOf text k
@@ -95,15 +130,47 @@ module _ (text : Bytes) (k : ℕ) where
         long = sym (length-take-le (upTo 9 (drop (fieldStart line j) line)) (drop (fieldStart line j) line) (up-to-inside 9 (drop (fieldStart line j) line))) ∙ ap length e;
       }
 
-  edge-fits : (kind f t m a c : Bytes) → split 9 line ≡ kind ∷ f ∷ t ∷ m ∷ a ∷ c ∷ [] → Fits text k (edge f t true a c)
-  edge-fits kind f t m a c e =
+  -- a byte of the line stands in the text
+  byte-fits : (i : ℕ) → i < length line → getD text (lineStart text k + i) 0 ≡ getD line i 0
+  unfolding lineOf pieceAt
+  byte-fits i h =
+      let n = upTo 10 (drop (lineStart text k) text) in
+      let l : i < n = omega (arith, length-take n (drop (lineStart text k) text)) in
+      sym (getD-drop (lineStart text k) text i 0) ∙ sym (getD-take n (drop (lineStart text k) text) i 0 l)
+
+  -- a mark, after field 2 and before field 4
+  mark-fits : (m : Bytes) (b : ℕ) → endAt 9 line (fieldStart line 2) < length line → pieceAt 9 line (fieldStart line 3) ≡ m → endAt 9 line (fieldStart line 3) < length line → m ≡ b ∷ [] →
+      (getD text (fieldAt text k 4 - 3) 0 ≡ 9) × (getD text (fieldAt text k 4 - 2) 0 ≡ b) × (getD text (fieldAt text k 4 - 1) 0 ≡ 9)
+  unfolding fieldAt fieldStart
+  mark-fits m b l2 p l3 e =
+      let s2 = fieldStart line 2 in
+      let s3 = endAt 9 line s2 + 1 in
+      let one : endAt 9 line s3 ≡ s3 + 1 = one-long line s3 (p ∙ e) in
+      let z3 : lineStart text k + (endAt 9 line s3 + 1) - 3 ≡ lineStart text k + endAt 9 line s2 = omega (arith, one) in
+      let z2 : lineStart text k + (endAt 9 line s3 + 1) - 2 ≡ lineStart text k + s3 = omega (arith, one) in
+      let z1 : lineStart text k + (endAt 9 line s3 + 1) - 1 ≡ lineStart text k + endAt 9 line s3 = omega (arith, one) in
+      (
+        rw z3 (byte-fits (endAt 9 line s2) l2 ∙ end-byte 9 line s2 l2),
+        rw z2 (byte-fits s3 (omega (arith, one)) ∙ one-byte line s3 (p ∙ e)),
+        rw z1 (byte-fits (endAt 9 line s3) l3 ∙ end-byte 9 line s3 l3),
+      )
+
+  edge-fits : (kind f t m a c : Bytes) → split 9 line ≡ kind ∷ f ∷ t ∷ m ∷ a ∷ c ∷ [] → (b : Bool) → same m (cond b 116 45 ∷ []) ≡ true → Fits text k (edge f t b a c)
+  edge-fits kind f t m a c e b q =
       let t0 = field-left line 0 kind f (t ∷ m ∷ a ∷ c ∷ []) (rw (field-zero line) e) in
       let t1 = field-left line 1 f t _ (t0 .2) in
       let t2 = field-left line 2 t m _ (t1 .2) in
       let t3 = field-left line 3 m a _ (t2 .2) in
       let t4 = field-left line 4 a c _ (t3 .2) in
       let o = one-left 9 line (fieldStart line 5) c (t4 .2) in
-      (formula-fits 4 a (t4 .0), formula-fits 5 c (piece-last 9 line (fieldStart line 5) _ refl (o .1) ∙ o .0))
+      let d2 = two-left 9 line (fieldStart line 2) t m _ (t1 .2) in
+      let d3 = two-left 9 line (fieldStart line 3) m a _ (t2 .2) in
+      let w = mark-fits m (cond b 116 45) (d2 .1) (d3 .0) (d3 .1) (same-equal m (cond b 116 45 ∷ []) q) in
+      (
+        formula-fits 4 a (t4 .0),
+        formula-fits 5 c (piece-last 9 line (fieldStart line 5) _ refl (o .1) ∙ o .0),
+        record { tab-before = w .0; mark = w .1; tab-after = w .2 },
+      )
 
   fields-fit : (fs : List Bytes) → split 9 line ≡ fs → Fits text k (ofFields fs)
   unfolding ofFields

@@ -54,6 +54,7 @@ use Rattle.graph.specs.declared.Judged.{Judged}
 use Rattle.graph.specs.declared.Judged.the-variants.{Fine, Faulty}
 use Rattle.graph.specs.declared.Arc.{Arc}
 use Rattle.graph.specs.Claims.{FormulaAt, FormulaSound, EdgeSound, Sound}
+use Rattle.graph.proofs.ModeLineLaws.{mode-said}
 use Rattle.graph.proofs.FieldLaws.{Fits, line-fits, two-left}
 use Rattle.graph.proofs.ArrayLaws.{filled-length, places-length, places-more, places-first, none-list, one-more, arcs-length}
 
@@ -138,19 +139,19 @@ pub record OneMore (text : Bytes) (n : ℕ) (graph : Graph) : Type 0 where
   pub grown : Grown text graph
   pub count : recordsOf graph ≡ n + 1
 
-abbrev plusMode : Graph → Mode → Graph
+abbrev pub plusMode : Graph → Mode → Graph
 plusMode graph m = record { mode = m; signals = graph .signals; constants = graph .constants; vertices = graph .vertices; edges = graph .edges }
 
-abbrev plusSignal : Graph → Bytes → Graph
+abbrev pub plusSignal : Graph → Bytes → Graph
 plusSignal graph n = record { mode = graph .mode; signals = graph .signals ++ (n ∷ []); constants = graph .constants; vertices = graph .vertices; edges = graph .edges }
 
-abbrev plusConstant : Graph → Bytes → Graph
+abbrev pub plusConstant : Graph → Bytes → Graph
 plusConstant graph n = record { mode = graph .mode; signals = graph .signals; constants = graph .constants ++ (n ∷ []); vertices = graph .vertices; edges = graph .edges }
 
-abbrev plusVertex : Graph → Bytes → Graph
+abbrev pub plusVertex : Graph → Bytes → Graph
 plusVertex graph n = record { mode = graph .mode; signals = graph .signals; constants = graph .constants; vertices = graph .vertices ++ (n ∷ []); edges = graph .edges }
 
-abbrev plusEdge : Graph → Edge → Graph
+abbrev pub plusEdge : Graph → Edge → Graph
 plusEdge graph e = record { mode = graph .mode; signals = graph .signals; constants = graph .constants; vertices = graph .vertices; edges = graph .edges ++ (e ∷ []) }
 
 unless-went : (j : Judged) (graph : Graph) (e : Edge) {more : Graph} → unlessFaulty j graph e ≡ went more → (j ≡ Fine) × (plusEdge graph e ≡ more)
@@ -303,6 +304,7 @@ module _ (text : Bytes) (graph : Graph) (g : Grown text graph) where
           from-is = refl;
           to-is = refl;
           terminal-is = refl;
+          mark-at = p .2;
           antecedent-at = p .0;
           consequent-at = p .1;
           antecedent-sound = formula-sound (graph .signals) (graph .constants) a (l .0);
@@ -310,18 +312,18 @@ module _ (text : Bytes) (graph : Graph) (g : Grown text graph) where
         })
         (leb-false 128 _ (few .0)))
 
-    record-step : (r : Record) → Fits text (recordsOf graph) r → add graph r ≡ went more → OneMore text (recordsOf graph) more
+    record-step : (r : Record) → Fits text (recordsOf graph) r → ((m : Mode) → r ≡ mode m → modeLines m ≡ 1) → add graph r ≡ went more → OneMore text (recordsOf graph) more
     unfolding add
-    record-step shapeless p h = let z : _≡_ {A = ℕ} 0 1 = cc in absurd (omega arith)
-    record-step (mode m) p h = mode-step m p h
-    record-step (signal n) p h = signal-step n p h
-    record-step (constant n) p h = constant-step n p h
-    record-step (vertex n) p h = vertex-step n p h
-    record-step (edge f t m a c) p h = edge-step f t m a c p h
+    record-step shapeless p q h = let z : _≡_ {A = ℕ} 0 1 = cc in absurd (omega arith)
+    record-step (mode m) p q h = mode-step m (q m refl) h
+    record-step (signal n) p q h = signal-step n p h
+    record-step (constant n) p q h = constant-step n p h
+    record-step (vertex n) p q h = vertex-step n p h
+    record-step (edge f t m a c) p q h = edge-step f t m a c p h
 
     -- the next line's record
     pub line-step : add graph (recordOf (lineOf text (recordsOf graph))) ≡ went more → OneMore text (recordsOf graph) more
-    line-step h = record-step (recordOf (lineOf text (recordsOf graph))) (line-fits text (recordsOf graph)) h
+    line-step h = record-step (recordOf (lineOf text (recordsOf graph))) (line-fits text (recordsOf graph)) (λ m e. mode-said (lineOf text (recordsOf graph)) e) h
 
 pub nothing-grown : (text : Bytes) → Grown text nothing
 unfolding modeLines
@@ -337,7 +339,7 @@ nothing-grown text =
     }
 
 -- ---- the whole text
-finished-some : (graph : Graph) {last : Graph} → finished graph ≡ accepted last → (graph ≡ last) × (1 ≤ length (graph .vertices))
+pub finished-some : (graph : Graph) {last : Graph} → finished graph ≡ accepted last → (graph ≡ last) × (1 ≤ length (graph .vertices))
 unfolding finished
 finished-some graph {last} h = go (eqb (length (graph .vertices)) 0) refl h
   where

@@ -1,14 +1,19 @@
 -- The laws that belong to no one function. Crates above cite HeldLaws and AnswerLaws.
 pub mod PieceLaws
+pub mod SplitLaws
 pub mod NameLaws
 pub mod RecordLaws
 pub mod WordLaws
 pub mod EdgeLaws
 pub mod FieldLaws
 pub mod ArrayLaws
+pub mod ModeLineLaws
 pub mod ModeLaws
 pub mod LineLaws
 pub mod HeldLaws
 pub mod TextLaws
+pub mod ModeTextLaws
+pub mod UnseenLaws
 pub mod AnswerLaws
+pub mod ChosenLaws
 mod Examples

@@ -24,12 +24,12 @@ use Rattle.graph.proofs.ArrayLaws.{signals-are, constants-are, vertices
 use Rattle.graph.proofs.HeldLaws.{Grown, line-step, nothing-grown}
 
 -- ---- one line after the other
-read-some : (graph : Graph) (n : ℕ) (l : Bytes) (ls : List Bytes) → (ls ≡ [] → ⊥) → {f : Fault} → add graph (recordOf l) ≡ fault f → readLines graph n (l ∷ ls) ≡ refused (FaultyLine f n)
+pub read-some : (graph : Graph) (n : ℕ) (l : Bytes) (ls : List Bytes) → (ls ≡ [] → ⊥) → {f : Fault} → add graph (recordOf l) ≡ fault f → readLines graph n (l ∷ ls) ≡ refused (FaultyLine f n)
 unfolding readLines
 read-some graph n l [] h e = absurd (h refl)
 read-some graph n l (x ∷ ls) h e = rw (e, readLines)
 
-read-next : (graph : Graph) (n : ℕ) (l : Bytes) (ls : List Bytes) → (ls ≡ [] → ⊥) → {more : Graph} → add graph (recordOf l) ≡ went more → readLines graph n (l ∷ ls) ≡ readLines more (n + 1) ls
+pub read-next : (graph : Graph) (n : ℕ) (l : Bytes) (ls : List Bytes) → (ls ≡ [] → ⊥) → {more : Graph} → add graph (recordOf l) ≡ went more → readLines graph n (l ∷ ls) ≡ readLines more (n + 1) ls
 unfolding readLines
 read-next graph n l [] h e = absurd (h refl)
 read-next graph n l (x ∷ ls) h e = rw (e, readLines)

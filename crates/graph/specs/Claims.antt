@@ -1,9 +1,10 @@
 -- What the contract of read_graph claims of an accepted text: its graph keeps to the limits, its names and formulas
 -- stand where the checked graph says, its vertices and names are known, and each formula is of the grammar and
 -- at most 16 deep. Assumes nothing.
-use Prim.Native.Nat.{ℕ, _+_, _≤_, _<_}
+use Prim.Native.Nat.{ℕ, _+_, _-_, _≤_, _<_}
+use Prim.Native.Char.{code}
 use mathlib.Core.Path.{_≡_}
-use mathlib.Core.Bool.{Bool, true}
+use mathlib.Core.Bool.{Bool, true, cond}
 use mathlib.Core.List.{List, _++_, map}
 use lib.ListN.{length, getD, take, drop}
 use Rattle.formula.specs.Grammar.{Tree, tree, treeOf, depthOf}
@@ -26,6 +27,12 @@ pub record FormulaSound (ss cs : List Bytes) (s : Bytes) (x : Expr) : Type 0 whe
   pub names-known : known (ss ++ cs) s parse ≡ true
   pub means : x ≡ resolved (length ss) (ss ++ cs) s parse
 
+-- an edge's mark stands between two tabs, before its antecedent at p
+pub record MarkAt (text : Bytes) (p : ℕ) (marked : Bool) : Type 0 where
+  pub tab-before : getD text (p - 3) 0 ≡ code "\t"
+  pub mark : getD text (p - 2) 0 ≡ cond marked (code "t") (code "-")
+  pub tab-after : getD text (p - 1) 0 ≡ code "\t"
+
 -- an edge between vertices of vs, terminal or not, whose formulas stand in the text where its arc says
 pub record EdgeSound (text : Bytes) (ss cs vs : List Bytes) (terminal : Bool) (a : Arc) (e : Edge) : Type 0 where
   pub from-known : e .from < length vs
@@ -33,6 +40,7 @@ pub record EdgeSound (text : Bytes) (ss cs vs : List Bytes) (terminal : Bool) (a
   pub from-is : a .from ≡ e .from
   pub to-is : a .to ≡ e .to
   pub terminal-is : a .terminal ≡ terminal
+  pub mark-at : MarkAt text (a .left) (e .marked)
   pub antecedent-at : FormulaAt text (a .left) (a .lefts) (e .antecedentText)
   pub consequent-at : FormulaAt text (a .right) (a .rights) (e .consequentText)
   pub antecedent-sound : FormulaSound ss cs (e .antecedentText) (e .antecedent)

@@ -4,4 +4,5 @@ pub mod Records
 pub mod Reading
 pub mod Held
 pub mod Claims
+pub mod ModeClaims
 pub mod Private

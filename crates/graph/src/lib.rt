@@ -9,6 +9,7 @@ ghost use Rattle.graph.specs.Pieces.{endAt};
 ghost use Rattle.graph.specs.Reading.{faultNumber, refusalOf, refused, finished, nothing};
 ghost use Rattle.graph.specs.Held.{answerOf, readOf};
 ghost use Rattle.graph.specs.Claims.{GraphMeans};
+ghost use Rattle.graph.specs.ModeClaims.{ModeMeans};
 ghost use Rattle.graph.specs.Private.Steps.{Kept, writtenOf, faultyOf, AddsLine};
 
 mod edges;
@@ -251,6 +252,7 @@ fn finish(g: CheckedGraph) -> GraphRead
 pub fn read_graph(text: &[u8]) -> GraphRead
     ensures { λ r. ⌜ r ≡ readOf (now (text .entry)) ⌝ }
     ensures sound { λ _. ⌜ GraphMeans (now (text .entry)) ⌝ }
+    ensures modes { λ r. ⌜ ModeMeans (now (text .entry)) r ⌝ }
 {
     if LONGEST_TEXT < text.len() {
         return refuse(Cause::TextTooLong);

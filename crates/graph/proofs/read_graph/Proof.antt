@@ -3,7 +3,7 @@ use mathlib.Core.Path.{_∙_}
 use Prim.Native.Nat.{_≤_, _-_, _+_}
 use native.Mathlib.Omega.{arith}
 use lib.ListN.{length}
-use Rattle.graph.proofs.HeldLaws.{sound}
+use Rattle.graph.proofs.ChosenLaws.{claimed}
 use Rattle.graph.proofs.TextLaws.{Going, going-start, going-holds, going-kept, going-next, read-long, read-unended, read-fault, read-end}
 use borrow.Author.Needs.{needs}
 use Rattle.graph.proofs.read_graph.Statement.{statement}
@@ -21,7 +21,7 @@ refuse-requires c κs = search needs
 returns : tie.Need-returns Inv-loop μ-loop
 returns c =
     let t = c .before .before .before .args .text .now in
-    (c .refuse .ensures t ∙ read-long t (c .before .if1 .taken), λ g. sound t)
+    claimed t (c .refuse .ensures t ∙ read-long t (c .before .if1 .taken))
 
 empty-requires : tie.Need-empty-requires Inv-loop μ-loop
 empty-requires c κs = search needs
@@ -42,7 +42,7 @@ returns-2 c =
     let e = c .before .before in
     let l = e .before .before .loop in
     let t = e .before .before .before .before .before .before .args .text .now in
-    (c .refuse2 .ensures t ∙ read-unended t (l .inv .0) (l .g) (l .at) (l .line) (l .inv .3) (e .before .loop-test .taken) (e .end-at .ensures .0) (c .before .if2 .taken), λ g. sound t)
+    claimed t (c .refuse2 .ensures t ∙ read-unended t (l .inv .0) (l .g) (l .at) (l .line) (l .inv .3) (e .before .loop-test .taken) (e .end-at .ensures .0) (c .before .if2 .taken))
 
 add-line-requires : tie.Need-add-line-requires Inv-loop μ-loop
 add-line-requires c κs =
@@ -64,7 +64,7 @@ returns-3 c =
     let l = e .before .before .loop in
     let t = e .before .before .before .before .before .before .args .text .now in
     let i = l .inv .3 in
-    (c .refuse3 .ensures t ∙ read-fault t (l .inv .0) (l .g) (l .at) (l .line) i (e .end-at .ensures .0) (omega (arith, e .end-at .ensures .2, x .before .if2 .left)) (x .add-line .ensures (i .graph) (going-holds t (l .g) (l .at) (l .line) i) (i .start)) (c .before .before .judged .given .1), λ g. sound t)
+    claimed t (c .refuse3 .ensures t ∙ read-fault t (l .inv .0) (l .g) (l .at) (l .line) i (e .end-at .ensures .0) (omega (arith, e .end-at .ensures .2, x .before .if2 .left)) (x .add-line .ensures (i .graph) (going-holds t (l .g) (l .at) (l .line) i) (i .start)) (c .before .before .judged .given .1))
 
 enum-told : tie.Need-enum-told Inv-loop μ-loop
 enum-told c = search needs
@@ -97,7 +97,7 @@ returns-4 c =
     let l = c .before .before .loop in
     let t = c .before .before .before .before .before .before .args .text .now in
     let i = l .inv .3 in
-    (c .finish .ensures t (i .graph) (i .arrays) ∙ read-end t (l .inv .0) (l .g) (l .at) (l .line) i (c .before .loop-test .left), λ g. sound t)
+    claimed t (c .finish .ensures t (i .graph) (i .arrays) ∙ read-end t (l .inv .0) (l .g) (l .at) (l .line) i (c .before .loop-test .left))
 
 pub read-graph-spec : {M : Type 1} → statement M
 read-graph-spec =

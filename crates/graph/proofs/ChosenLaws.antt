@@ -1,0 +1,114 @@
+-- The terminal edges of an accepted text, by the bytes of their marks; and the claim on modes. Assumes nothing.
+use Prim.Native.Nat.{ℕ, zero, suc, _-_, _≤_, _<_}
+use mathlib.Core.Path.{_≡_, refl, sym, ap, subst, _∙_}
+use mathlib.Core.Logic.{_⊎_, inl, inr}
+use mathlib.Core.Bool.{Bool, true, false, cond}
+use mathlib.Core.List.{List, [], _∷_, List·Memᴰ, List·Memᴰ·head, List·Memᴰ·tail}
+use native.Mathlib.Omega.{arith}
+use lib.ListN.{length, getD}
+use Rattle.assertion.specs.Graph.{Bytes, truth, Edge, Graph, isTerminal}
+use Rattle.assertion.specs.Paths.{TerminalEdge}
+use Rattle.assertion.specs.Paths.TerminalEdge.{by-mode, by-mark, unmarked}
+use Rattle.assertion.proofs.TerminalLaws.{reason, for-reason}
+use Rattle.graph.specs.Reading.{accepted, graphOf}
+use Rattle.graph.specs.Held.{noArc, heldAs, heldOf, readOf}
+use Rattle.graph.specs.Claims.{MarkAt, GraphMeans}
+use Rattle.graph.specs.ModeClaims.{markAt, Chosen, EdgeChosen, ModeMeans, FirstLine}
+use Rattle.graph.specs.ModeClaims.Chosen.{mode-strong, mark-t, no-mark}
+use Rattle.graph.specs.declared.CheckedGraph.{CheckedGraph}
+use Rattle.graph.specs.declared.ReadOutcome.the-variants.{Checked}
+use Rattle.graph.specs.declared.GraphRead.{GraphRead}
+use Rattle.graph.proofs.HeldLaws.{sound}
+use Rattle.graph.proofs.AnswerLaws.{CheckedText, checked-text}
+use Rattle.graph.proofs.ModeTextLaws.{first-line, mode-again, word-wrong}
+use Rattle.graph.proofs.UnseenLaws.{unseen}
+
+-- ---- all edges of a list, by index
+all-at : (es : List Edge) (d : Edge) → ((j : ℕ) → j < length es → getD es j d .marked ≡ false) → (f : Edge) → List·Memᴰ f es → f .marked ≡ false
+all-at (e ∷ es) d h f (List·Memᴰ·head q) = ap (λ (x : Edge). x .marked) q ∙ h 0 (omega arith)
+all-at (e ∷ es) d h f (List·Memᴰ·tail m) = all-at es d (λ j l. h (suc j) (omega arith)) f m
+
+member : (es : List Edge) (d : Edge) (j : ℕ) → j < length es → List·Memᴰ (getD es j d) es
+member [] d j h = absurd (omega arith)
+member (e ∷ es) d zero h = List·Memᴰ·head refl
+member (e ∷ es) d (suc j) h = List·Memᴰ·tail (member es d j (omega arith))
+
+-- ---- a mark by its byte
+mark-or : (b : Bool) {n : ℕ} → n ≡ cond b 116 45 → (n ≡ 116) ⊎ (n ≡ 45)
+mark-or true e = inl e
+mark-or false e = inr e
+
+marked-t : (b : Bool) {n : ℕ} → n ≡ cond b 116 45 → n ≡ 116 → b ≡ true
+marked-t true e k = refl
+marked-t false e k = absurd (omega arith)
+
+marked-dash : (b : Bool) {n : ℕ} → n ≡ cond b 116 45 → n ≡ 45 → b ≡ false
+marked-dash true e k = absurd (omega arith)
+marked-dash false e k = refl
+
+t-marked : (b : Bool) {n : ℕ} → n ≡ cond b 116 45 → b ≡ true → n ≡ 116
+t-marked b e k = e ∙ ap (λ (x : Bool). cond {A = ℕ} x 116 45) k
+
+dash-marked : (b : Bool) {n : ℕ} → n ≡ cond b 116 45 → b ≡ false → n ≡ 45
+dash-marked b e k = e ∙ ap (λ (x : Bool). cond {A = ℕ} x 116 45) k
+
+noEdge : Edge
+noEdge = record { from = 0; to = 0; marked = false; antecedent = truth false; consequent = truth false; antecedentText = []; consequentText = [] }
+
+-- ---- the terminal edges of a text that was checked
+module _ {text : Bytes} {g : CheckedGraph} (t : CheckedText text g) where
+  abbrev graph : Graph
+  graph = t .graph
+
+  abbrev edge : ℕ → Edge
+  edge i = getD (graph .edges) i noEdge
+
+  inside : {i : ℕ} → i < g .edges → i < length (graph .edges)
+  inside h = omega (arith, t .edges-are)
+
+  at : (i : ℕ) → i < g .edges → MarkAt text (getD (g .arcs) i noArc .left) (edge i .marked)
+  at i h = subst (λ (x : CheckedGraph). MarkAt text (getD (x .arcs) i noArc .left) (edge i .marked)) (sym (t .arrays)) (t .graph-sound .edge-at i noEdge (inside h) .mark-at)
+
+  is-terminal : (i : ℕ) → i < g .edges → getD (g .arcs) i noArc .terminal ≡ isTerminal graph (edge i)
+  is-terminal i h = subst (λ (x : CheckedGraph). getD (x .arcs) i noArc .terminal ≡ isTerminal graph (edge i)) (sym (t .arrays)) (t .graph-sound .edge-at i noEdge (inside h) .terminal-is)
+
+  mode-is : g .mode ≡ graph .mode
+  unfolding heldOf heldAs
+  mode-is = ap (λ (x : CheckedGraph). x .mode) (t .arrays)
+
+  there : (i : ℕ) → i < g .edges → TerminalEdge graph (edge i) → Chosen text g i
+  there i h (by-mode k) = mode-strong (mode-is ∙ k)
+  there i h (by-mark k) = mark-t (t-marked (edge i .marked) (at i h .mark) k)
+  there i h (unmarked k n) = no-mark (mode-is ∙ k) (λ j l. dash-marked (edge j .marked) (at j l .mark) (n (edge j) (member (graph .edges) noEdge j (inside l))))
+
+  back : (i : ℕ) → i < g .edges → Chosen text g i → TerminalEdge graph (edge i)
+  back i h (mode-strong k) = by-mode (sym mode-is ∙ k)
+  back i h (mark-t k) = by-mark (marked-t (edge i .marked) (at i h .mark) k)
+  back i h (no-mark k n) =
+      unmarked (sym mode-is ∙ k)
+      (all-at (graph .edges) noEdge (λ j l. let m : j < g .edges = omega (arith, t .edges-are) in marked-dash (edge j .marked) (at j m .mark) (n j m)))
+
+  edge-chosen : (i : ℕ) → i < g .edges → EdgeChosen text g i
+  edge-chosen i h =
+      record {
+        tab-before = at i h .tab-before;
+        mark = mark-or (edge i .marked) (at i h .mark);
+        tab-after = at i h .tab-after;
+        reason = λ k. there i h (reason graph (edge i) (sym (is-terminal i h) ∙ k));
+        chosen = λ k. is-terminal i h ∙ for-reason graph (edge i) (back i h k);
+      }
+
+-- THE LAW
+pub mode-means : (text : Bytes) {r : GraphRead} → r ≡ readOf text → ModeMeans text r
+mode-means text {r} e =
+    record {
+      first-line = λ h. let t = checked-text text e h in rw (mode-is t) (first-line text (t .accepts));
+      terminal = λ h i l. edge-chosen (checked-text text e h) i l;
+      another = λ before word after m w q n short. mode-again w q n short e;
+      other-word = λ before word after w q short. word-wrong w q short e;
+      unseen = λ word after m w q f short. unseen w q f short;
+    }
+
+-- what the contract of read_graph says, by its equality
+pub claimed : (text : Bytes) {r : GraphRead} → r ≡ readOf text → (r ≡ readOf text) × (GraphMeans text × ModeMeans text r)
+claimed text e = (e, (λ graph h. sound text h, mode-means text e))

@@ -1,0 +1,90 @@
+-- What the contract of read_graph claims of `M` lines and terminal edges, by the bytes of the text, and not by the
+-- definitions that read them. Assumes nothing.
+use Prim.Native.Nat.{ℕ, _+_, _-_, _≤_, _<_}
+use Prim.Native.Char.{code}
+use mathlib.Core.Path.{_≡_}
+use mathlib.Core.Logic.{_⊎_}
+use mathlib.Core.Bool.{true, cond}
+use mathlib.Core.List.{List, [], _∷_, _++_}
+use lib.Dec.{eqb}
+use lib.ListN.{length, getD}
+use Rattle.text.specs.declared.Refusal.{Refusal}
+use Rattle.assertion.specs.Graph.{Bytes, Graph}
+use Rattle.assertion.specs.declared.Mode.{Mode}
+use Rattle.assertion.specs.declared.Mode.the-variants.{Unsaid, Terminal, Strong}
+use Rattle.graph.specs.Reading.{Outcome, refused, accepted, refusalOf, graphOf}
+use Rattle.graph.specs.Held.{noArc}
+use Rattle.graph.specs.declared.Fault.{Fault}
+use Rattle.graph.specs.declared.Cause.{Cause}
+use Rattle.graph.specs.declared.Cause.the-variants.{FaultyLine, NoVertex}
+use Rattle.graph.specs.declared.Arc.{Arc}
+use Rattle.graph.specs.declared.CheckedGraph.{CheckedGraph}
+use Rattle.graph.specs.declared.ReadOutcome.the-variants.{Checked, Refused}
+use Rattle.graph.specs.declared.GraphRead.{GraphRead}
+
+-- ---- `M` lines
+-- the words
+pub data ModeWord : Bytes → Mode → Type 0 where
+  terminal : ModeWord (code "t" ∷ code "e" ∷ code "r" ∷ code "m" ∷ code "i" ∷ code "n" ∷ code "a" ∷ code "l" ∷ []) Terminal
+  strong : ModeWord (code "s" ∷ code "t" ∷ code "r" ∷ code "o" ∷ code "n" ∷ code "g" ∷ []) Strong
+
+-- a line may start after these bytes: there are none, or the last is LF
+pub data StartsLine (before : Bytes) : Type 0 where
+  first : before ≡ [] → StartsLine before
+  next : (lines : Bytes) → before ≡ lines ++ (code "\n" ∷ []) → StartsLine before
+
+-- after these bytes stands a line that is `M`, a tab and a word, with its LF, and after that the others
+pub record ModeLine (text before word after : Bytes) : Type 0 where
+  pub bytes : text ≡ before ++ (code "M" ∷ code "\t" ∷ (word ++ (code "\n" ∷ after)))
+  pub starts : StartsLine before
+  pub one-line : (left right : Bytes) → word ≡ left ++ (code "\n" ∷ right) → ⊥
+
+-- what the first line says
+pub data FirstLine (text : Bytes) : Mode → Type 0 where
+  says : (word after : Bytes) (m : Mode) → ModeWord word m → ModeLine text [] word after → FirstLine text m
+  silent : ((word after : Bytes) → ModeLine text [] word after → ⊥) → FirstLine text Unsaid
+
+-- how many LF there are
+abbrev pub breaks : Bytes → ℕ
+breaks [] = 0
+breaks (b ∷ s) = cond (eqb b (code "\n")) 1 0 + breaks s
+
+-- the answer refuses the line after these bytes with this number, unless they are refused for a line of their own
+pub data RefusedAfter (before : Bytes) (number : ℕ) (r : GraphRead) : Type 0 where
+  here : (cause : Cause) → r .outcome ≡ Refused cause → refusalOf cause ≡ record { number = number; line = breaks before + 1 } → RefusedAfter before number r
+  earlier : (f : Fault) (n : ℕ) → graphOf before ≡ refused (FaultyLine f n) → r .outcome ≡ Refused (FaultyLine f n) → RefusedAfter before number r
+
+-- the outcome of a text with an `M` line before it: no other line is judged otherwise, and it counts as a line
+pub data Moved (m : Mode) : Outcome → Outcome → Type 0 where
+  taken : (g : Graph) → Moved m (accepted g) (accepted (record { mode = m; signals = g .signals; constants = g .constants; vertices = g .vertices; edges = g .edges }))
+  later : (f : Fault) (n : ℕ) → Moved m (refused (FaultyLine f n)) (refused (FaultyLine f (n + 1)))
+  vertexless : Moved m (refused NoVertex) (refused NoVertex)
+
+-- ---- terminal edges
+-- the mark of edge i stands two bytes before its antecedent
+abbrev pub markAt : Bytes → CheckedGraph → ℕ → ℕ
+markAt text g i = getD text (getD (g .arcs) i noArc .left - 2) 0
+
+-- edge i is terminal for one of three reasons
+pub data Chosen (text : Bytes) (g : CheckedGraph) (i : ℕ) : Type 0 where
+  mode-strong : g .mode ≡ Strong → Chosen text g i
+  mark-t : markAt text g i ≡ code "t" → Chosen text g i
+  no-mark : g .mode ≡ Unsaid → ((j : ℕ) → j < g .edges → markAt text g j ≡ code "-") → Chosen text g i
+
+-- the mark is `t` or `-`, between two tabs; and the edge is terminal where there is a reason
+pub record EdgeChosen (text : Bytes) (g : CheckedGraph) (i : ℕ) : Type 0 where
+  pub tab-before : getD text (getD (g .arcs) i noArc .left - 3) 0 ≡ code "\t"
+  pub mark : (markAt text g i ≡ code "t") ⊎ (markAt text g i ≡ code "-")
+  pub tab-after : getD text (getD (g .arcs) i noArc .left - 1) 0 ≡ code "\t"
+  pub reason : getD (g .arcs) i noArc .terminal ≡ true → Chosen text g i
+  pub chosen : Chosen text g i → getD (g .arcs) i noArc .terminal ≡ true
+
+-- THE CLAIM of the answer r to a text
+pub record ModeMeans (text : Bytes) (r : GraphRead) : Type 0 where
+  pub first-line : r .outcome ≡ Checked → FirstLine text (r .graph .mode)
+  pub terminal : r .outcome ≡ Checked → (i : ℕ) → i < r .graph .edges → EdgeChosen text (r .graph) i
+  -- "Another `M` line is 3; another word is 2"
+  pub another : (before word after : Bytes) (m : Mode) → ModeLine text before word after → ModeWord word m → (before ≡ [] → ⊥) → length text ≤ 32768 → RefusedAfter before 3 r
+  pub other-word : (before word after : Bytes) → ModeLine text before word after → ((m : Mode) → ModeWord word m → ⊥) → length text ≤ 32768 → RefusedAfter before 2 r
+  -- the other lines are judged as without it
+  pub unseen : (word after : Bytes) (m : Mode) → ModeLine text [] word after → ModeWord word m → FirstLine after Unsaid → length text ≤ 32768 → Moved m (graphOf after) (graphOf text)

@@ -11,7 +11,6 @@ use lib.ListN.{length, take, set, replicate, length-append, length-replicate}
 use lib.Seq.{take-at, set-append-seam}
 use Rattle.assertion.specs.Graph.{Bytes, Edge, Graph}
 use Rattle.assertion.specs.declared.Mode.{Mode}
-use Rattle.assertion.specs.declared.Mode.the-variants.{Unsaid, Terminal, Strong}
 use Rattle.graph.specs.Pieces.{lookUp}
 use Rattle.graph.specs.Reading.{modeLines, addMode, namesOf, judgedFormula, lower, addSignal, addConstant, addVertex, edgeOf, unlessFaulty, judgeEdge, addEdge}
 use Rattle.graph.specs.Held.{fieldAt, namePlaces, arcOf, arcsOf, noArc, filled, heldAs}

@@ -1,5 +1,5 @@
 -- The terminal edges of an accepted text, by the bytes of their marks; and the claim on modes. Assumes nothing.
-use Prim.Native.Nat.{ℕ, zero, suc, _-_, _≤_, _<_}
+use Prim.Native.Nat.{ℕ, zero, suc, _-_, _<_}
 use mathlib.Core.Path.{_≡_, refl, sym, ap, subst, _∙_}
 use mathlib.Core.Logic.{_⊎_, inl, inr}
 use mathlib.Core.Bool.{Bool, true, false, cond}
@@ -10,17 +10,15 @@ use Rattle.assertion.specs.Graph.{Bytes, truth, Edge, Graph, isTerminal}
 use Rattle.assertion.specs.Paths.{TerminalEdge}
 use Rattle.assertion.specs.Paths.TerminalEdge.{by-mode, by-mark, unmarked}
 use Rattle.assertion.proofs.TerminalLaws.{reason, for-reason}
-use Rattle.graph.specs.Reading.{accepted, graphOf}
 use Rattle.graph.specs.Held.{noArc, heldAs, heldOf, readOf}
 use Rattle.graph.specs.Claims.{MarkAt, GraphMeans}
-use Rattle.graph.specs.ModeClaims.{markAt, Chosen, EdgeChosen, ModeMeans, FirstLine}
+use Rattle.graph.specs.ModeClaims.{Chosen, EdgeChosen, ModeMeans}
 use Rattle.graph.specs.ModeClaims.Chosen.{mode-strong, mark-t, no-mark}
 use Rattle.graph.specs.declared.CheckedGraph.{CheckedGraph}
-use Rattle.graph.specs.declared.ReadOutcome.the-variants.{Checked}
 use Rattle.graph.specs.declared.GraphRead.{GraphRead}
 use Rattle.graph.proofs.HeldLaws.{sound}
 use Rattle.graph.proofs.AnswerLaws.{CheckedText, checked-text}
-use Rattle.graph.proofs.ModeTextLaws.{first-line, mode-again, word-wrong}
+use Rattle.graph.proofs.ModeTextLaws.{first-line, mode-again, word-wrong, word-missing, lf-missing}
 use Rattle.graph.proofs.UnseenLaws.{unseen}
 
 -- ---- all edges of a list, by index
@@ -106,6 +104,8 @@ mode-means text {r} e =
       terminal = λ h i l. edge-chosen (checked-text text e h) i l;
       another = λ before word after m w q n short. mode-again w q n short e;
       other-word = λ before word after w q short. word-wrong w q short e;
+      no-word = λ before after starts b short. word-missing after starts b short e;
+      no-lf = λ before rest starts b plain short. lf-missing rest starts b plain short e;
       unseen = λ word after m w q f short. unseen w q f short;
     }
 

@@ -15,7 +15,6 @@ use Rattle.formula.specs.Grammar.{Tree, Parsed, none, tree, treeOf, depthOf}
 use Rattle.formula.proofs.PostfixLaws.{words-some, words-fit}
 use Rattle.assertion.specs.Graph.{Bytes, Expr, Edge, Graph, isTerminal}
 use Rattle.assertion.specs.declared.Mode.{Mode}
-use Rattle.assertion.specs.declared.Mode.the-variants.{Unsaid, Terminal, Strong}
 use Rattle.graph.specs.Pieces.{split, pieceAt, lookUp}
 use Rattle.graph.specs.Records.{Record, shapeless, mode, signal, constant, vertex, edge, recordOf}
 use Rattle.graph.specs.Reading.{

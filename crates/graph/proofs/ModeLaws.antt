@@ -2,8 +2,8 @@
 -- those of the graph. Assumes nothing.
 use Prim.Native.Nat.{ℕ, zero, suc, _+_, _-_, _≤_, _<_}
 use mathlib.Core.Path.{_≡_, refl, sym, ap, _∙_}
-use mathlib.Core.Bool.{Bool, true, false, not, _||_, cond}
-use mathlib.Core.List.{List, [], _∷_, _++_, map}
+use mathlib.Core.Bool.{Bool, true, false, _||_, cond}
+use mathlib.Core.List.{List, [], _∷_, map}
 use native.Mathlib.Numerals.{add-one}
 use native.Mathlib.Omega.{arith}
 use lib.ListN.{length, getD, take, drop, set, replicate}
@@ -14,7 +14,7 @@ use Rattle.assertion.specs.declared.Mode.{Mode}
 use Rattle.assertion.specs.declared.Mode.the-variants.{Unsaid, Terminal, Strong}
 use Rattle.assertion.proofs.TerminalLaws.{each, terminal-each, terminal-marked}
 use Rattle.graph.specs.Reading.{modeLines, nothing}
-use Rattle.graph.specs.Held.{namePlaces, arcOf, arcsOf, noArc, filled, heldAs, heldOf}
+use Rattle.graph.specs.Held.{arcOf, arcsOf, noArc, filled, heldAs, heldOf}
 use Rattle.graph.specs.Private.Steps.{namedOf, writtenOf, madeTerminal, allTerminal, withArcs, eachTerminal, chosenIn}
 use Rattle.graph.specs.declared.Arc.{Arc}
 use Rattle.graph.specs.declared.CheckedGraph.{CheckedGraph}

@@ -1,15 +1,15 @@
 -- Laws of `M` lines: what record such a line is, and which lines are such records. Byte 77 is `M`, 9 a tab, 10
 -- LF. Assumes nothing.
-use Prim.Native.Nat.{ℕ, suc, _+_, _≤_, _<_}
-use mathlib.Core.Path.{_≡_, refl, sym, ap, subst, _∙_}
+use Prim.Native.Nat.{ℕ}
+use mathlib.Core.Path.{_≡_, refl, subst, _∙_}
 use mathlib.Core.Bool.{Bool, true, false}
-use mathlib.Core.List.{List, [], _∷_, _++_}
+use mathlib.Core.List.{List, [], _∷_}
 use native.Mathlib.Omega.{arith}
 use Rattle.text.specs.Quoted.{bytes}
 use Rattle.formula.specs.Classes.{pick, isName}
-use Rattle.assertion.specs.Graph.{Bytes, Graph}
+use Rattle.assertion.specs.Graph.{Bytes}
 use Rattle.assertion.specs.declared.Mode.{Mode}
-use Rattle.assertion.specs.declared.Mode.the-variants.{Unsaid, Terminal, Strong}
+use Rattle.assertion.specs.declared.Mode.the-variants.{Terminal, Strong}
 use Rattle.graph.specs.Pieces.{onto, split, same}
 use Rattle.graph.specs.Records.{Record, shapeless, mode, signal, constant, vertex, edge, moded, named, marked, edged, ofFields, recordOf}
 use Rattle.graph.specs.Reading.{modeLines}

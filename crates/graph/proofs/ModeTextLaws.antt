@@ -1,41 +1,37 @@
 -- Laws of `M` lines in a text: the first line decides the mode, a later one is refused, and the other lines are
 -- judged as without it. Assumes nothing.
 use Prim.Native.Nat.{ℕ, suc, _+_, _≤_, _<_}
-use Prim.Native.Char.{code}
 use mathlib.Core.Path.{_≡_, refl, sym, ap, subst, _∙_}
-use mathlib.Core.Logic.{_⊎_, inl, inr}
 use mathlib.Core.Bool.{Bool, true, false}
 use mathlib.Core.List.{List, [], _∷_, _++_, append-assoc}
 use native.Mathlib.Nat.{add-zero}
 use native.Mathlib.Omega.{arith}
-use borrow.Author.Tests.{lt-ltb, ltb-false, le-ltb}
-use lib.Dec.{ltb, leb, eqb}
+use borrow.Author.Tests.{lt-ltb, le-ltb}
+use lib.Dec.{ltb, leb}
 use lib.ListN.{length, getD, drop, length-append}
 use Rattle.text.specs.Quoted.{bytes}
-use Rattle.text.specs.declared.Refusal.{Refusal}
 use Rattle.formula.specs.Classes.{pick}
 use Rattle.assertion.specs.Graph.{Bytes, Edge, Graph}
 use Rattle.assertion.specs.declared.Mode.{Mode}
-use Rattle.assertion.specs.declared.Mode.the-variants.{Unsaid, Terminal, Strong}
+use Rattle.assertion.specs.declared.Mode.the-variants.{Unsaid}
 use Rattle.graph.specs.Pieces.{onto, split, lookUp}
-use Rattle.graph.specs.Records.{Record, shapeless, mode, signal, constant, vertex, edge, recordOf}
-use Rattle.graph.specs.Reading.{Step, fault, went, modeLines, addMode, addSignal, addConstant, addVertex, edgeOf, unlessFaulty, judgeEdge, addEdge, add, namesOf, judgedFormula, lower, Outcome, refused, accepted, finished, readLines, nothing, faultNumber, refusalOf, graphOf}
-use Rattle.graph.specs.ModeClaims.{ModeWord, StartsLine, ModeLine, FirstLine, breaks, RefusedAfter, Moved}
+use Rattle.graph.specs.Records.{Record, shapeless, mode, signal, constant, vertex, edge, ofFields, recordOf}
+use Rattle.graph.specs.Reading.{Step, fault, went, modeLines, addMode, addSignal, addConstant, addVertex, edgeOf, unlessFaulty, judgeEdge, addEdge, add, namesOf, judgedFormula, lower, refused, accepted, finished, readLines, nothing, faultNumber, refusalOf, graphOf}
+use Rattle.graph.specs.ModeClaims.{ModeWord, StartsLine, ModeLine, FirstLine, breaks, RefusedAfter}
 use Rattle.graph.specs.ModeClaims.ModeWord.{terminal, strong}
 use Rattle.graph.specs.ModeClaims.StartsLine.{first, next}
 use Rattle.graph.specs.ModeClaims.FirstLine.{says, silent}
 use Rattle.graph.specs.ModeClaims.RefusedAfter.{here, earlier}
-use Rattle.graph.specs.ModeClaims.Moved.{taken, later, vertexless}
 use Rattle.graph.specs.Private.Steps.{recordsOf}
 use Rattle.graph.specs.declared.Fault.{Fault}
 use Rattle.graph.specs.declared.Fault.the-variants.{WrongShape, WrongOrder, TooMany, NameRepeated, UnknownVertex}
 use Rattle.graph.specs.declared.Judged.{Judged}
 use Rattle.graph.specs.declared.Judged.the-variants.{Fine, Faulty}
 use Rattle.graph.specs.Held.{answerOf, readOf}
-use Rattle.graph.specs.declared.ReadOutcome.the-variants.{Checked, Refused}
+use Rattle.graph.specs.declared.ReadOutcome.the-variants.{Refused}
 use Rattle.graph.specs.declared.GraphRead.{GraphRead}
 use Rattle.graph.specs.declared.Cause.{Cause}
-use Rattle.graph.specs.declared.Cause.the-variants.{TextTooLong, FaultyLine, NoVertex}
+use Rattle.graph.specs.declared.Cause.the-variants.{TextTooLong, FaultyLine}
 use Rattle.graph.proofs.PieceLaws.{split-some}
 use Rattle.graph.proofs.SplitLaws.{split-joined, split-whole, split-breaks, first-piece, whole-without}
 use Rattle.graph.proofs.ModeLineLaws.{mode-from, mode-said, line-said, line-not, Line, good-or-bad}
@@ -299,42 +295,55 @@ numbered : (f : Fault) {n m : ℕ} → n ≡ m → refusalOf (FaultyLine f n) �
 unfolding refusalOf
 numbered f e = rw e
 
-module _ {text before word after : Bytes} (w : ModeLine text before word after) (short : length text ≤ 32768) where
+-- lines after whole lines: refused with this fault, unless what stands before them is
+module _ {text before : Bytes} (rest : Bytes) (starts : StartsLine before) (bytes-are : text ≡ before ++ rest) (short : length text ≤ 32768) where
   abbrev its : Lines before
-  its = lines-of before (w .starts)
-
-  abbrev this : Bytes
-  this = 77 ∷ 9 ∷ word
-
-  whole-lines : split 10 text ≡ its .ls ++ (this ∷ split 10 after)
-  whole-lines = rw (w .bytes) (its .further (77 ∷ 9 ∷ (word ++ (10 ∷ after))) ∙ ap (λ (l : List Bytes). its .ls ++ l) (mode-lines word after (w .one-line)))
+  its = lines-of before starts
 
   before-short : length before ≤ 32768
-  before-short = omega (arith, ap length (w .bytes), length-append before (77 ∷ 9 ∷ (word ++ (10 ∷ after))))
+  before-short = omega (arith, ap length bytes-are, length-append before rest)
 
-  -- it is refused with this fault, unless what stands before it is
-  line-refused : (f : Fault) → ((more : Graph) → (1 ≤ length (its .ls) → 1 ≤ recordsOf more) → add more (recordOf this) ≡ fault f) → {r : GraphRead} → r ≡ readOf text → RefusedAfter before (faultNumber f) r
-  line-refused f h {r} e = by (prefix nothing 1 (its .ls) (this ∷ split 10 after) some)
+  read : graphOf text ≡ readLines nothing 1 (its .ls ++ split 10 rest)
+  read = short-lines text short ∙ ap (readLines nothing 1) (ap (split 10) bytes-are ∙ its .further rest)
+
+  rest-refused : (f : Fault) → ((more : Graph) (n : ℕ) → (1 ≤ length (its .ls) → 1 ≤ recordsOf more) → readLines more n (split 10 rest) ≡ refused (FaultyLine f n)) → {r : GraphRead} → r ≡ readOf text → RefusedAfter before (faultNumber f) r
+  rest-refused f h {r} e = by (prefix nothing 1 (its .ls) (split 10 rest) (split-some 10 rest))
     where
-      some : _≡_ {A = List Bytes} (this ∷ split 10 after) [] → ⊥
-      some q = let z : _≡_ {A = ℕ} 0 1 = cc in omega arith
-
-      read : graphOf text ≡ readLines nothing 1 (its .ls ++ (this ∷ split 10 after))
-      read = short-lines text short ∙ ap (readLines nothing 1) whole-lines
-
-      by : Prefix nothing 1 (its .ls) (this ∷ split 10 after) → RefusedAfter before (faultNumber f) r
+      by : Prefix nothing 1 (its .ls) (split 10 rest) → RefusedAfter before (faultNumber f) r
       by (stops k m a b) = earlier k m (short-lines before before-short ∙ ap (readLines nothing 1) (its .alone) ∙ a) (refused-outcome text (read ∙ b) e)
       by (goes more a c) =
           let n : 1 + length (its .ls) ≡ breaks before + 1 = omega (arith, its .count) in
-          here (FaultyLine f (1 + length (its .ls)))
-          (refused-outcome text (read ∙ a ∙ read-some more (1 + length (its .ls)) this (split 10 after) (split-some 10 after) (h more (λ k. c (omega arith)))) e)
-          (numbered f n)
+          here (FaultyLine f (1 + length (its .ls))) (refused-outcome text (read ∙ a ∙ h more (1 + length (its .ls)) (λ k. c (omega arith))) e) (numbered f n)
 
 pub mode-again : {text before word after : Bytes} {m : Mode} → ModeLine text before word after → ModeWord word m → (before ≡ [] → ⊥) → length text ≤ 32768 → {r : GraphRead} → r ≡ readOf text → RefusedAfter before 3 r
 unfolding add faultNumber
-mode-again {before = before} {m = m} w q n short e =
-    line-refused w short WrongOrder (λ more k. ap (add more) (line-said q) ∙ mode-refused more m (k (lines-of before (w .starts) .some n))) e
+mode-again {before = before} {word = word} {after = after} {m = m} w q some short e =
+    rest-refused (77 ∷ 9 ∷ (word ++ (10 ∷ after))) (w .starts) (w .bytes) short WrongOrder
+    (λ more n k. rw (mode-lines word after (w .one-line))
+    (read-some more n (77 ∷ 9 ∷ word) (split 10 after) (split-some 10 after) (ap (add more) (line-said q) ∙ mode-refused more m (k (lines-of before (w .starts) .some some)))))
+    e
 
 pub word-wrong : {text before word after : Bytes} → ModeLine text before word after → ((m : Mode) → ModeWord word m → ⊥) → length text ≤ 32768 → {r : GraphRead} → r ≡ readOf text → RefusedAfter before 2 r
 unfolding add faultNumber
-word-wrong {word = word} w q short e = line-refused w short WrongShape (λ more k. ap (add more) (line-not word q)) e
+word-wrong {word = word} {after = after} w q short e =
+    rest-refused (77 ∷ 9 ∷ (word ++ (10 ∷ after))) (w .starts) (w .bytes) short WrongShape
+    (λ more n k. rw (mode-lines word after (w .one-line)) (read-some more n (77 ∷ 9 ∷ word) (split 10 after) (split-some 10 after) (ap (add more) (line-not word q))))
+    e
+
+pub word-missing : {text before : Bytes} (after : Bytes) → StartsLine before → text ≡ before ++ (77 ∷ 10 ∷ after) → length text ≤ 32768 → {r : GraphRead} → r ≡ readOf text → RefusedAfter before 2 r
+unfolding add faultNumber recordOf ofFields split onto
+word-missing after starts b short e =
+    rest-refused (77 ∷ 10 ∷ after) starts b short WrongShape (λ more n k. read-some more n (77 ∷ []) (split 10 after) (split-some 10 after) refl) e
+
+lf-refused : (more : Graph) (n : ℕ) (rest : Bytes) → split 10 (77 ∷ rest) ≡ (77 ∷ rest) ∷ [] → readLines more n (split 10 (77 ∷ rest)) ≡ refused (FaultyLine WrongShape n)
+unfolding readLines
+lf-refused more n rest e = rw e
+
+pub lf-missing : {text before : Bytes} (rest : Bytes) → StartsLine before → text ≡ before ++ (77 ∷ rest) → ((left right : Bytes) → rest ≡ left ++ (10 ∷ right) → ⊥) → length text ≤ 32768 → {r : GraphRead} → r ≡ readOf text → RefusedAfter before 2 r
+unfolding faultNumber
+lf-missing rest starts b without short e =
+    rest-refused (77 ∷ rest) starts b short WrongShape (λ more n k. lf-refused more n rest (split-whole 10 (77 ∷ rest) none)) e
+  where
+    none : (left right : Bytes) → _≡_ {A = Bytes} (77 ∷ rest) (left ++ (10 ∷ right)) → ⊥
+    none [] right q = let z : _≡_ {A = ℕ} 77 10 = ap (λ (x : Bytes). getD x 0 0) q in omega arith
+    none (a ∷ left) right q = without left right (ap (drop 1) q)

@@ -1,6 +1,6 @@
 -- After an `M` line the other lines are judged as without it. Assumes nothing.
-use Prim.Native.Nat.{ℕ, _+_, _≤_, _<_}
-use mathlib.Core.Path.{_≡_, refl, sym, ap, subst, _∙_}
+use Prim.Native.Nat.{ℕ, _+_, _≤_}
+use mathlib.Core.Path.{_≡_, refl, ap, _∙_}
 use mathlib.Core.Bool.{Bool, true, false}
 use mathlib.Core.List.{List, [], _∷_, _++_}
 use native.Mathlib.Omega.{arith}
@@ -12,7 +12,7 @@ use Rattle.assertion.specs.declared.Mode.{Mode}
 use Rattle.assertion.specs.declared.Mode.the-variants.{Unsaid}
 use Rattle.graph.specs.Pieces.{split, lookUp}
 use Rattle.graph.specs.Records.{Record, shapeless, mode, signal, constant, vertex, edge, recordOf}
-use Rattle.graph.specs.Reading.{Step, fault, went, modeLines, addMode, addSignal, addConstant, addVertex, edgeOf, namesOf, unlessFaulty, judgeEdge, addEdge, add, Outcome, refused, accepted, finished, readLines, nothing, graphOf}
+use Rattle.graph.specs.Reading.{Step, fault, went, modeLines, addSignal, addConstant, addVertex, edgeOf, namesOf, unlessFaulty, judgeEdge, addEdge, add, refused, accepted, finished, readLines, nothing, graphOf}
 use Rattle.graph.specs.ModeClaims.{ModeWord, ModeLine, FirstLine, Moved}
 use Rattle.graph.specs.ModeClaims.StartsLine.{first}
 use Rattle.graph.specs.ModeClaims.FirstLine.{says, silent}
@@ -22,7 +22,7 @@ use Rattle.graph.specs.declared.Fault.{Fault}
 use Rattle.graph.specs.declared.Fault.the-variants.{WrongShape, WrongOrder, TooMany, NameRepeated}
 use Rattle.graph.specs.declared.Judged.{Judged}
 use Rattle.graph.specs.declared.Judged.the-variants.{Fine, Faulty}
-use Rattle.graph.specs.declared.Cause.the-variants.{FaultyLine, NoVertex}
+use Rattle.graph.specs.declared.Cause.the-variants.{NoVertex}
 use Rattle.graph.proofs.PieceLaws.{split-some}
 use Rattle.graph.proofs.SplitLaws.{first-piece}
 use Rattle.graph.proofs.ModeLineLaws.{mode-from, word-said, line-said}

@@ -5,10 +5,9 @@ use Prim.Native.Char.{code}
 use mathlib.Core.Path.{_≡_}
 use mathlib.Core.Logic.{_⊎_}
 use mathlib.Core.Bool.{true, cond}
-use mathlib.Core.List.{List, [], _∷_, _++_}
+use mathlib.Core.List.{[], _∷_, _++_}
 use lib.Dec.{eqb}
 use lib.ListN.{length, getD}
-use Rattle.text.specs.declared.Refusal.{Refusal}
 use Rattle.assertion.specs.Graph.{Bytes, Graph}
 use Rattle.assertion.specs.declared.Mode.{Mode}
 use Rattle.assertion.specs.declared.Mode.the-variants.{Unsaid, Terminal, Strong}
@@ -17,7 +16,6 @@ use Rattle.graph.specs.Held.{noArc}
 use Rattle.graph.specs.declared.Fault.{Fault}
 use Rattle.graph.specs.declared.Cause.{Cause}
 use Rattle.graph.specs.declared.Cause.the-variants.{FaultyLine, NoVertex}
-use Rattle.graph.specs.declared.Arc.{Arc}
 use Rattle.graph.specs.declared.CheckedGraph.{CheckedGraph}
 use Rattle.graph.specs.declared.ReadOutcome.the-variants.{Checked, Refused}
 use Rattle.graph.specs.declared.GraphRead.{GraphRead}
@@ -86,5 +84,8 @@ pub record ModeMeans (text : Bytes) (r : GraphRead) : Type 0 where
   -- "Another `M` line is 3; another word is 2"
   pub another : (before word after : Bytes) (m : Mode) → ModeLine text before word after → ModeWord word m → (before ≡ [] → ⊥) → length text ≤ 32768 → RefusedAfter before 3 r
   pub other-word : (before word after : Bytes) → ModeLine text before word after → ((m : Mode) → ModeWord word m → ⊥) → length text ≤ 32768 → RefusedAfter before 2 r
+  -- no word, and no LF
+  pub no-word : (before after : Bytes) → StartsLine before → text ≡ before ++ (code "M" ∷ code "\n" ∷ after) → length text ≤ 32768 → RefusedAfter before 2 r
+  pub no-lf : (before rest : Bytes) → StartsLine before → text ≡ before ++ (code "M" ∷ rest) → ((left right : Bytes) → rest ≡ left ++ (code "\n" ∷ right) → ⊥) → length text ≤ 32768 → RefusedAfter before 2 r
   -- the other lines are judged as without it
   pub unseen : (word after : Bytes) (m : Mode) → ModeLine text [] word after → ModeWord word m → FirstLine after Unsaid → length text ≤ 32768 → Moved m (graphOf after) (graphOf text)

@@ -5,7 +5,7 @@ ghost use Prim.Native.Nat.{_≤_};
 ghost use lib.ListN.{take};
 ghost use Rattle.assertion.specs.Lists.{any};
 ghost use Rattle.graph.specs.Reading.{modeLines};
-ghost use Rattle.graph.specs.Private.Steps.{Kept, AddsMode, withMode, madeTerminal, allTerminal, withArcs, eachTerminal, chosenIn};
+ghost use Rattle.graph.specs.Private.Steps.{Kept, AddsMode, withMode, allTerminal, withArcs, eachTerminal, chosenIn};
 use crate::Added;
 use crate::Arc;
 use crate::CheckedGraph;

@@ -1,5 +1,5 @@
 -- `graph::modes::choose` meets its contract. Assumes nothing.
-use mathlib.Core.Path.{refl, sym, _∙_}
+use mathlib.Core.Path.{sym, _∙_}
 use borrow.Author.Needs.{needs}
 use Rattle.graph.proofs.modes.choose.Statement.{statement}
 use Rattle.graph.proofs.modes.choose.Tie as tie

@@ -1,6 +1,6 @@
 -- `graph::modes::each_terminal` meets its contract. Assumes nothing.
-use mathlib.Core.Path.{refl, sym, ap, _∙_}
-use mathlib.Core.Bool.{Bool, not}
+use mathlib.Core.Path.{ap}
+use mathlib.Core.Bool.{not}
 use Rattle.graph.specs.Private.Steps.{eachTerminal}
 use borrow.Author.Needs.{needs}
 use Rattle.graph.proofs.modes.each_terminal.Statement.{statement}

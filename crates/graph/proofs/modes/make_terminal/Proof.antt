@@ -3,7 +3,6 @@
 use Prim.Native.Nat.{_-_, _≤_}
 use mathlib.Core.Path.{_≡_, refl, ap, _∙_}
 use native.Mathlib.Omega.{arith}
-use lib.ListN.{length}
 use Rattle.graph.proofs.ModeLaws.{made-none, made-more}
 use Rattle.graph.specs.Private.Steps.{allTerminal, withArcs}
 use borrow.Author.Needs.{needs}

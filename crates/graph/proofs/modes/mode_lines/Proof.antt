@@ -1,6 +1,5 @@
 -- `graph::modes::mode_lines` meets its contract. Assumes nothing.
-use Prim.Native.Nat.{_≤_}
-use mathlib.Core.Path.{_≡_, refl, sym, ap, _∙_}
+use mathlib.Core.Path.{sym, ap}
 use native.Mathlib.Omega.{arith}
 use Rattle.graph.specs.Reading.{modeLines}
 use borrow.Author.Needs.{needs}

@@ -3,7 +3,7 @@ use Prim.Native.Nat.{_-_, _≤_}
 use mathlib.Core.Path.{_≡_, refl, sym}
 use mathlib.Core.Bool.{false}
 use native.Mathlib.Omega.{arith}
-use lib.ListN.{length, take}
+use lib.ListN.{take}
 use Rattle.assertion.specs.Lists.{any}
 use Rattle.graph.proofs.ModeLaws.{marked-none, marked-next, marked-here}
 use borrow.Author.Needs.{needs}

@@ -36,19 +36,6 @@ each Unsaid es = not (any marks es)
 each Terminal es = false
 each Strong es = true
 
-pub terminal-each : (g : Graph) (e : Edge) → each (g .mode) (g .edges) ≡ true → isTerminal g e ≡ true
-unfolding isTerminal each
-terminal-each g e h = by (g .mode) refl h
-  where
-    or-true : (a : Bool) → (a || true) ≡ true
-    or-true true = refl
-    or-true false = refl
-
-    by : (m : Mode) → g .mode ≡ m → each m (g .edges) ≡ true → isTerminal g e ≡ true
-    by Unsaid k n = rw (isTerminal, k, n) (or-true (e .marked))
-    by Terminal k n = let z : _≡_ {A = ℕ} 0 1 = cc in absurd (omega arith)
-    by Strong k n = rw (isTerminal, k)
-
 pub terminal-marked : (g : Graph) (e : Edge) → each (g .mode) (g .edges) ≡ false → isTerminal g e ≡ e .marked
 unfolding isTerminal each
 terminal-marked g e h = by (g .mode) refl h
@@ -61,6 +48,19 @@ terminal-marked g e h = by (g .mode) refl h
     by Unsaid k n = rw (isTerminal, k, n) (or-false (e .marked))
     by Terminal k n = rw (isTerminal, k)
     by Strong k n = let z : _≡_ {A = ℕ} 0 1 = cc in absurd (omega arith)
+
+pub terminal-each : (g : Graph) (e : Edge) → each (g .mode) (g .edges) ≡ true → isTerminal g e ≡ true
+unfolding isTerminal each
+terminal-each g e h = by (g .mode) refl h
+  where
+    or-true : (a : Bool) → (a || true) ≡ true
+    or-true true = refl
+    or-true false = refl
+
+    by : (m : Mode) → g .mode ≡ m → each m (g .edges) ≡ true → isTerminal g e ≡ true
+    by Unsaid k n = rw (isTerminal, k, n) (or-true (e .marked))
+    by Terminal k n = let z : _≡_ {A = ℕ} 0 1 = cc in absurd (omega arith)
+    by Strong k n = rw (isTerminal, k)
 
 -- ---- the three reasons
 pub reason : (g : Graph) (e : Edge) → isTerminal g e ≡ true → TerminalEdge g e

@@ -18,6 +18,7 @@ use Rattle.builder.specs.Private.Terms.{maskGates, everyOther, termsOf, 
 use Rattle.builder.specs.Private.Edges.{two, edgeOf, edgesOf, targets, marks, markOf}
 use Rattle.builder.specs.Private.Monitor.{gatherOf, gatherGates, judgeGates, acceptAfter, monitorGates, monitorAccept, monitorEdges, JudgeMade, MonitorMade, edgePairs}
 use Rattle.builder.proofs.AddingLaws.{whole-of}
+use Rattle.builder.proofs.EdgeLaws.{chosen, length-chosen, targets-chosen, edges-chosen}
 
 abbrev happies : List Two → List ℕ
 happies [] = []
@@ -130,19 +131,18 @@ and-all : (ts : List ℕ) (n : ℕ) → andAll n (map inv ts) ≡ record { gates
 and-all [] n = rw (inv-flip 0 false)
 and-all (t ∷ ts) n = and-from ts n t
 
-accept-terms : (g : Graph) (es : List Edge) (ms : List Two) → acceptTerms g es ms ≡ map inv (termsOf 1 (marks es) (condemneds ms))
-unfolding isTerminal
+accept-terms : (g : Graph) (es : List Edge) (ms : List Two) → acceptTerms g es ms ≡ map inv (termsOf 1 (marks (chosen g es)) (condemneds ms))
 accept-terms g [] ms = refl
 accept-terms g (e ∷ es) [] = refl
-accept-terms g (e ∷ es) (m ∷ ms) = by (e .marked) _ _ (accept-terms g es ms)
+accept-terms g (e ∷ es) (m ∷ ms) = by (isTerminal g e) _ _ (accept-terms g es ms)
   where
     by : (x : Bool) (zs bs : List ℕ) → zs ≡ map inv bs → cond x (inv (m .condemned) ∷ zs) zs ≡ map inv (cond (eqb (markOf x) 1) (m .condemned ∷ bs) bs)
     by true zs bs q = rw q
     by false zs bs q = q
 
-accept-is : (g : Graph) (es : List Edge) (ms : List Two) (n : ℕ) → andAll n (acceptTerms g es ms) ≡ acceptOf n (marks es) (condemneds ms)
+accept-is : (g : Graph) (es : List Edge) (ms : List Two) (n : ℕ) → andAll n (acceptTerms g es ms) ≡ acceptOf n (marks (chosen g es)) (condemneds ms)
 unfolding acceptOf orOn
-accept-is g es ms n = rw (accept-terms g es ms) (and-all (termsOf 1 (marks es) (condemneds ms)) n)
+accept-is g es ms n = rw (accept-terms g es ms) (and-all (termsOf 1 (marks (chosen g es)) (condemneds ms)) n)
 
 -- ---- the whole
 
@@ -181,6 +181,10 @@ module _ (g : Graph) where
   abbrev es : List Edge
   es = g .edges
 
+  -- the edges as the code holds them
+  abbrev cs : List Edge
+  cs = chosen g es
+
   abbrev s : ℕ
   s = length (g .signals)
 
@@ -193,44 +197,44 @@ module _ (g : Graph) where
   abbrev f : ℕ
   f = firstGate g
 
-  masked-is : masked g .gates ≡ maskGates l (2 * length es)
+  masked-is : masked g .gates ≡ maskGates l (2 * length cs)
   unfolding masked
-  masked-is = masks-gates es f l
+  masked-is = rw (length-chosen g es) (masks-gates es f l)
 
-  gathered-is : Is (gathered g) (gatherOf (targets es) v (length es) l f)
+  gathered-is : Is (gathered g) (gatherOf (targets cs) v (length cs) l f)
   unfolding gathered masked gatherOf
   gathered-is =
       subst (Is (gathered g))
-      (rw (masks-happy es f l, masks-condemned es f l, masked-is, ← add-one f))
+      (rw (masks-happy es f l, masks-condemned es f l, masked-is, ← add-one f, targets-chosen g es, length-chosen g es))
       (vertices-are es (masked g .outs) v (f + length (masked g .gates)) 0)
 
-  gates-is : f + length (masked g .gates) + length (gathered g .gates) ≡ f + length (gatherGates (targets es) v (length es) l f)
+  gates-is : f + length (masked g .gates) + length (gathered g .gates) ≡ f + length (gatherGates (targets cs) v (length cs) l f)
   unfolding gatherGates
   gates-is =
-      let e = length-append (maskGates l (2 * length es)) (gatherOf (targets es) v (length es) l f .gates) in
+      let e = length-append (maskGates l (2 * length cs)) (gatherOf (targets cs) v (length cs) l f .gates) in
       omega (arith, e, ap length masked-is, ap length (gathered-is .gates))
 
-  judged-is : Is (judged g) (monitorEdges s v es l f)
+  judged-is : Is (judged g) (monitorEdges s v cs l f)
   unfolding judged monitorEdges
   judged-is =
       subst (Is (judged g))
-      (rw (gathered-is .happy, gathered-is .condemned, gates-is))
+      (rw (gathered-is .happy, gathered-is .condemned, gates-is) (sym (edges-chosen g s _ _ es _)))
       (edges-are s (gathered g .outs) es (f + length (masked g .gates) + length (gathered g .gates)))
 
-  accepted-is : accepted g ≡ acceptAfter s (f + length (gatherGates (targets es) v (length es) l f)) (gatherOf (targets es) v (length es) l f .happy) (gatherOf (targets es) v (length es) l f .condemned) (marks es) es
+  accepted-is : accepted g ≡ acceptAfter s (f + length (gatherGates (targets cs) v (length cs) l f)) (gatherOf (targets cs) v (length cs) l f .happy) (gatherOf (targets cs) v (length cs) l f .condemned) (marks cs) cs
   unfolding accepted acceptAfter monitorEdges
   accepted-is = rw (gates-is, judged-is .gates, accept-is g es (judged g .outs) _, judged-is .condemned)
 
   -- THE LOOPS STORE THE MONITOR
-  pub gates-are : gatesOf g ≡ monitorGates s v es l f
+  pub gates-are : gatesOf g ≡ monitorGates s v cs l f
   unfolding gatesOf monitorGates judgeGates gatherGates monitorEdges
   gates-are =
       rw (masked-is, gathered-is .gates, judged-is .gates, accepted-is)
-      (sym (append-assoc (maskGates l (2 * length es)) (gatherOf (targets es) v (length es) l f .gates) _))
+      (sym (append-assoc (maskGates l (2 * length cs)) (gatherOf (targets cs) v (length cs) l f .gates) _))
 
-  pub output-is : accepted g .out ≡ monitorAccept s v es l f
+  pub output-is : accepted g .out ≡ monitorAccept s v cs l f
   unfolding monitorAccept
   output-is = rw accepted-is
 
-  pub latches-are : edgeLatches (judged g .outs) ≡ edgePairs (monitorEdges s v es l f .happy) (monitorEdges s v es l f .condemned)
+  pub latches-are : edgeLatches (judged g .outs) ≡ edgePairs (monitorEdges s v cs l f .happy) (monitorEdges s v cs l f .condemned)
   latches-are = pairs-are (judged g .outs) ∙ rw (judged-is .happy, judged-is .condemned)

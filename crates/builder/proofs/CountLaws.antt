@@ -19,13 +19,13 @@ use Rattle.formula.specs.Reading.{nameWord, byteWord, postfix, padded, answerOf
 use Rattle.formula.proofs.PostfixLaws.{InField, name-word-small, byte-word-large, byte-word-back, field-short, in-field, words-few}
 use Rattle.graph.specs.Reading.{joined, symbol, resolved, accepted, graphOf}
 use Rattle.graph.specs.Pieces.{lookUp}
-use Rattle.graph.specs.Held.{heldOf, noArc}
+use Rattle.graph.specs.Held.{heldAs, heldOf, noArc}
 use Rattle.graph.specs.declared.Arc.{Arc}
 use Rattle.graph.specs.declared.CheckedGraph.{CheckedGraph}
 use Rattle.graph.specs.Claims.{FormulaAt, FormulaSound, EdgeSound, Sound}
 use Rattle.graph.proofs.HeldLaws.{sound}
 use Rattle.circuit.specs.Count.{formulaGates, allFormulaGates, incoming, entered, terminals, gateFormula}
-use Rattle.builder.specs.Private.Machine.{summed, byteGates, wordGates, gatesAt, readGates, fieldGates, arcGates, goesTo, isReached, hasMark, gatesBy}
+use Rattle.builder.specs.Private.Machine.{summed, byteGates, wordGates, gatesAt, readGates, fieldGates, arcGates, goesTo, isReached, terminalAt, gatesBy}
 use Rattle.builder.proofs.FormulaLaws.{bit-is}
 
 -- ---- a loop that adds: what is left has one term less, and none at the end
@@ -91,9 +91,9 @@ pub word-counted : (words : List ℕ) (i n : ℕ) {x : ℕ} → i < n → x ≡ 
 word-counted words i n l e = rw (gates-at words i e) (summed-step (gatesAt words) i n l)
 
 -- ---- one edge
-pub mark-counted : (arcs : List Arc) (i n : ℕ) {m : Bool} → i < n → m ≡ getD arcs i noArc .marked → summed (hasMark arcs) i (n - i) ≡ cond m 1 0 + summed (hasMark arcs) (i + 1) (n - (i + 1))
-unfolding hasMark
-mark-counted arcs i n l e = summed-step (hasMark arcs) i n l ∙ rw e
+pub terminal-counted : (arcs : List Arc) (i n : ℕ) {t : Bool} → i < n → t ≡ getD arcs i noArc .terminal → summed (terminalAt arcs) i (n - i) ≡ cond t 1 0 + summed (terminalAt arcs) (i + 1) (n - (i + 1))
+unfolding terminalAt
+terminal-counted arcs i n l e = summed-step (terminalAt arcs) i n l ∙ rw e
 
 pub gates-counted : (text : Bytes) (arcs : List Arc) (i n : ℕ) {a : Arc} {x : ℕ} → i < n → a ≡ getD arcs i noArc → x ≡ fieldGates text (a .left) (a .lefts) + fieldGates text (a .right) (a .rights) → summed (arcGates text arcs) i (n - i) ≡ x + summed (arcGates text arcs) (i + 1) (n - (i + 1))
 unfolding arcGates
@@ -221,7 +221,7 @@ noEdge =
     }
 
 module _ (text : Bytes) {graph : Graph} (s : Sound text graph) where
-  abbrev edges-sound : (i : ℕ) → i < length (graph .edges) → EdgeSound text (graph .signals) (graph .constants) (graph .vertices) (getD (heldOf text graph .arcs) i noArc) (getD (graph .edges) i noEdge)
+  abbrev edges-sound : (i : ℕ) → i < length (graph .edges) → EdgeSound text (graph .signals) (graph .constants) (graph .vertices) (isTerminal graph (getD (graph .edges) i noEdge)) (getD (heldOf text graph .arcs) i noArc) (getD (graph .edges) i noEdge)
   edges-sound i l = s .edge-at i noEdge l
 
   incoming-is : (v : ℕ) → summed (goesTo (heldOf text graph .arcs) v) 0 (length (graph .edges)) ≡ incoming v (graph .edges)
@@ -235,11 +235,11 @@ module _ (text : Bytes) {graph : Graph} (s : Sound text graph) where
   entered-is zero v = refl
   entered-is (suc k) v = rw (incoming-is v, entered-is k (suc v))
 
-  terminals-is : summed (hasMark (heldOf text graph .arcs)) 0 (length (graph .edges)) ≡ terminals graph (graph .edges)
-  unfolding hasMark isTerminal
+  terminals-is : summed (terminalAt (heldOf text graph .arcs)) 0 (length (graph .edges)) ≡ terminals graph (graph .edges)
+  unfolding terminalAt
   terminals-is =
-      summed-list (λ e. cond (e .marked) 1 0) (terminals graph) refl (λ e es. refl) (hasMark (heldOf text graph .arcs)) noEdge (graph .edges) 0
-      (λ i l. let z : 0 + i ≡ i = omega arith in rw (z, edges-sound i l .marked-is))
+      summed-list (λ e. cond (isTerminal graph e) 1 0) (terminals graph) refl (λ e es. refl) (terminalAt (heldOf text graph .arcs)) noEdge (graph .edges) 0
+      (λ i l. let z : 0 + i ≡ i = omega arith in rw (z, edges-sound i l .terminal-is))
 
   formulas-is : summed (arcGates text (heldOf text graph .arcs)) 0 (length (graph .edges)) ≡ allFormulaGates (graph .edges)
   unfolding arcGates
@@ -253,11 +253,11 @@ module _ (text : Bytes) {graph : Graph} (s : Sound text graph) where
       rw (z, formula-gates text (a .left) (a .lefts) (graph .signals) (graph .constants) (e .antecedentText) (e .antecedent) (w .antecedent-at) (w .antecedent-sound), formula-gates text (a .right) (a .rights) (graph .signals) (graph .constants) (e .consequentText) (e .consequent) (w .consequent-at) (w .consequent-sound)))
 
   edges-held : heldOf text graph .edges ≡ length (graph .edges)
-  unfolding heldOf
+  unfolding heldOf heldAs
   edges-held = refl
 
   vertices-held : heldOf text graph .vertices ≡ length (graph .vertices)
-  unfolding heldOf
+  unfolding heldOf heldAs
   vertices-held = refl
 
   held-counted : gatesBy text (heldOf text graph) ≡ gateFormula graph

@@ -1,14 +1,14 @@
--- One edge, one turn of the loop over the edges, and the columns of the edges. Assumes nothing.
+-- One edge, one turn of the loop over the edges, the columns of the edges, and the terminal ones. Assumes nothing.
 use mathlib.Core.Path.{_≡_, refl, sym, ap, _∙_}
-use mathlib.Core.Bool.{true, false}
-use mathlib.Core.List.{List, [], _∷_, _++_}
+use mathlib.Core.Bool.{Bool, true, false}
+use mathlib.Core.List.{List, [], _∷_, _++_, map}
 use Prim.Native.Nat.{ℕ, zero, suc, _+_, _≤_, _<_}
 use native.Mathlib.Numerals.{add-one}
 use native.Mathlib.Omega.{arith}
-use lib.ListN.{length, getD, take, drop, length-take}
+use lib.ListN.{length, getD, take, drop, length-take, length-map}
 use lib.Seq.{drop-cons, getD-take}
 use Rattle.netlist.specs.Literals.{literalOf}
-use Rattle.assertion.specs.Graph.{Bytes, Edge}
+use Rattle.assertion.specs.Graph.{Bytes, Edge, Graph, isTerminal}
 use Rattle.graph.specs.Held.{noArc}
 use Rattle.graph.specs.declared.Arc.{Arc}
 use Rattle.graph.specs.declared.CheckedGraph.{CheckedGraph}
@@ -85,7 +85,7 @@ module _ (arcs : List Arc) (count : ℕ) (long : count ≤ length arcs) where
   pub targets-row : (i : ℕ) → i < count → arcTargets (drop i (take count arcs)) ≡ getD arcs i noArc .to ∷ arcTargets (drop (i + 1) (take count arcs))
   targets-row i h = rw (arc-row i h)
 
-  pub marks-row : (i : ℕ) → i < count → arcMarks (drop i (take count arcs)) ≡ markOf (getD arcs i noArc .marked) ∷ arcMarks (drop (i + 1) (take count arcs))
+  pub marks-row : (i : ℕ) → i < count → arcMarks (drop i (take count arcs)) ≡ markOf (getD arcs i noArc .terminal) ∷ arcMarks (drop (i + 1) (take count arcs))
   marks-row i h = rw (arc-row i h)
 
 -- ---- the columns of the edges
@@ -97,7 +97,7 @@ targets-from text ns s (a ∷ arcs) = ap (_∷_ (a .to)) (targets-from text ns s
 marks-from : (text : Bytes) (ns : List Bytes) (s : ℕ) (arcs : List Arc) → marks (edgesFrom text ns s arcs) ≡ arcMarks arcs
 unfolding edgeIn
 marks-from text ns s [] = refl
-marks-from text ns s (a ∷ arcs) = ap (_∷_ (markOf (a .marked))) (marks-from text ns s arcs)
+marks-from text ns s (a ∷ arcs) = ap (_∷_ (markOf (a .terminal))) (marks-from text ns s arcs)
 
 pub from-length : (text : Bytes) (ns : List Bytes) (s : ℕ) (arcs : List Arc) → length (edgesFrom text ns s arcs) ≡ length arcs
 from-length text ns s [] = refl
@@ -115,3 +115,36 @@ module _ (text : Bytes) (g : CheckedGraph) where
   pub edges-count : g .edges ≤ length (g .arcs) → length (edgesIn text g) ≡ g .edges
   unfolding edgesIn
   edges-count h = from-length text (namesIn text g) (g .signals) (take (g .edges) (g .arcs)) ∙ rw length-take (omega arith)
+
+-- ---- the terminal edges
+abbrev pub withMark : Bool → Edge → Edge
+withMark b e =
+    record {
+      from = e .from;
+      to = e .to;
+      marked = b;
+      antecedent = e .antecedent;
+      consequent = e .consequent;
+      antecedentText = e .antecedentText;
+      consequentText = e .consequentText;
+    }
+
+-- edges of g, marked where they are terminal: no piece but accept sees it
+module _ (g : Graph) where
+  abbrev pub choose : Edge → Edge
+  choose e = withMark (isTerminal g e) e
+
+  abbrev pub chosen : List Edge → List Edge
+  chosen es = map choose es
+
+  pub length-chosen : (es : List Edge) → length (chosen es) ≡ length es
+  length-chosen es = length-map es choose
+
+  pub targets-chosen : (es : List Edge) → targets (chosen es) ≡ targets es
+  targets-chosen [] = refl
+  targets-chosen (e ∷ es) = ap (_∷_ (e .to)) (targets-chosen es)
+
+  pub edges-chosen : (s : ℕ) (hs ds : List ℕ) (es : List Edge) (n : ℕ) → edgesOf s n hs ds (chosen es) ≡ edgesOf s n hs ds es
+  unfolding edgeOf edgePiece
+  edges-chosen s hs ds [] n = refl
+  edges-chosen s hs ds (e ∷ es) n = rw (edges-chosen s hs ds es _)

@@ -8,7 +8,7 @@ use borrow.Author.Tests.{le-leb, lt-leb}
 use lib.ListN.{length, drop}
 use Rattle.assertion.specs.Graph.{Bytes, Graph}
 use Rattle.graph.specs.Reading.{accepted, graphOf}
-use Rattle.graph.specs.Held.{heldOf}
+use Rattle.graph.specs.Held.{heldAs, heldOf}
 use Rattle.graph.specs.Private.Steps.{Kept}
 use Rattle.graph.specs.declared.CheckedGraph.{CheckedGraph}
 use Rattle.circuit.specs.Build.{firstEdgeLatch, firstGate, gatesOf}
@@ -21,25 +21,26 @@ use Rattle.builder.specs.declared.Built.the-variants as built
 use Rattle.builder.specs.Build.{variablesOf, buildEnd, buildAs}
 use Rattle.builder.specs.Private.Edges.{GraphGood, Accepted}
 use Rattle.builder.specs.Private.Monitor.{frontOf, edgePairs, gatesIn, frontIn, numbersIn, monitorEdges}
+use Rattle.builder.proofs.EdgeLaws.{chosen}
 use Rattle.builder.proofs.BuildLaws.{gates-are, output-is, latches-are}
 use Rattle.builder.proofs.LayoutLaws as layout
 use Rattle.builder.proofs.GraphLaws as held
 
 module _ (text : Bytes) {graph : Graph} (read : graphOf text ≡ accepted graph) where
   gates-in : gatesIn text (heldOf text graph) ≡ gatesOf graph
-  unfolding gatesIn heldOf firstEdgeLatch firstGate
+  unfolding gatesIn heldOf heldAs firstEdgeLatch firstGate
   gates-in = rw (held.edges-held text read) (sym (gates-are graph))
 
   numbers-in : numbersIn text (heldOf text graph) ≡ numbersOf graph
-  unfolding numbersIn frontIn frontOf numbersOf heldOf firstEdgeLatch firstGate
+  unfolding numbersIn frontIn frontOf numbersOf heldOf heldAs firstEdgeLatch firstGate
   numbers-in =
-      let E = edgePairs (monitorEdges (length (graph .signals)) (length (graph .vertices)) (graph .edges) (firstEdgeLatch graph) (firstGate graph) .happy)
-      (monitorEdges (length (graph .signals)) (length (graph .vertices)) (graph .edges) (firstEdgeLatch graph) (firstGate graph) .condemned) in
+      let M = monitorEdges (length (graph .signals)) (length (graph .vertices)) (chosen graph (graph .edges)) (firstEdgeLatch graph) (firstGate graph) in
+      let E = edgePairs (M .happy) (M .condemned) in
       let C = constantLatches (2 + length (graph .signals)) (length (graph .constants)) in
       rw (gates-in, held.edges-held text read, ← output-is graph, latches-are graph, append-assoc C (E ++ (circuit.accepted graph .out ∷ [])) (operands (gatesOf graph)), append-assoc E (circuit.accepted graph .out ∷ []) (operands (gatesOf graph)), add-zero (2 + length (graph .signals)))
 
 heldFields : (text : Bytes) (g : CheckedGraph) (graph : Graph) → g ≡ heldOf text graph → (g .signals ≡ length (graph .signals)) × (g .constants ≡ length (graph .constants)) × (g .edges ≡ length (graph .edges))
-unfolding heldOf
+unfolding heldOf heldAs
 heldFields text g graph e = rw e (refl, refl, refl)
 
 -- ---- what a build answers

@@ -1,4 +1,5 @@
--- What the code holds of an accepted text is its graph, and what circuit asks of it. Assumes nothing.
+-- What the code holds of an accepted text is its graph with the terminal edges marked, and what circuit asks of
+-- it. Assumes nothing.
 use mathlib.Core.Path.{_≡_, refl, sym, _∙_}
 use mathlib.Core.Bool.{Bool, true, false}
 use mathlib.Core.List.{List, [], _∷_, _++_}
@@ -6,7 +7,7 @@ use Prim.Native.Nat.{ℕ, zero, suc, _+_, _-_, _<_}
 use native.Mathlib.Omega.{arith}
 use borrow.Author.Tests.{ltb-true, ltb-false, le-ltb}
 use lib.Dec.{eqb, ltb}
-use lib.ListN.{length, getD, take, drop, length-take, length-append}
+use lib.ListN.{length, getD, take, drop, length-take, length-append, List·getD-map}
 use lib.Seq.{ext-getD, getD-take}
 use Rattle.formula.specs.Classes.{pick}
 use Rattle.formula.specs.Grammar.{Tree, name, bit, not, group, join, treeOf, depthOf}
@@ -14,13 +15,13 @@ use Rattle.assertion.specs.Graph as G
 use Rattle.assertion.specs.Graph.{Bytes, Expr, Edge, Graph}
 use Rattle.graph.specs.Pieces.{lookUp, placeOf}
 use Rattle.graph.specs.Reading.{known, symbol, joined, resolved, judgedTree, judgedFormula, treeExpr, graphOf, accepted}
-use Rattle.graph.specs.Held.{noArc, heldOf}
+use Rattle.graph.specs.Held.{noArc, heldAs, heldOf}
 use Rattle.graph.specs.declared.Arc.{Arc}
 use Rattle.graph.specs.declared.Judged.the-variants.{Fine}
 use Rattle.graph.specs.Claims.{FormulaSound, EdgeSound}
 use Rattle.graph.proofs.HeldLaws.{sound}
 use Rattle.circuit.proofs.Fits.{Scoped, EdgeFits, AllFit, Fits}
-use Rattle.builder.proofs.EdgeLaws.{from-length}
+use Rattle.builder.proofs.EdgeLaws.{from-length, withMark, choose, chosen, length-chosen}
 use Rattle.builder.specs.Private.Edges.{namesIn, edgeIn, edgesFrom, edgesIn, ArcGood, GraphGood}
 
 -- ---- formulas
@@ -72,14 +73,14 @@ module _ (ss cs : List Bytes) (s : Bytes) where
     means = rw (f .parsed) (sym (f .means))
 
 -- ---- edges
-module _ (text : Bytes) (ss cs vs : List Bytes) (a : Arc) (e : Edge) (w : EdgeSound text ss cs vs a e) where
-  edge-held : edgeIn text (ss ++ cs) (length ss) a ≡ e
+module _ (text : Bytes) (ss cs vs : List Bytes) (t : Bool) (a : Arc) (e : Edge) (w : EdgeSound text ss cs vs t a e) where
+  edge-held : edgeIn text (ss ++ cs) (length ss) a ≡ withMark t e
   unfolding edgeIn
   edge-held =
       rw (
         w .from-is,
         w .to-is,
-        w .marked-is,
+        w .terminal-is,
         w .antecedent-at .bytes,
         w .consequent-at .bytes,
         means ss cs (e .antecedentText) (e .antecedent) (w .antecedent-sound),
@@ -106,10 +107,10 @@ module _ (text : Bytes) (ss cs vs : List Bytes) (a : Arc) (e : Edge) (w : EdgeSo
 noEdge : Edge
 noEdge = record { from = 0; to = 0; marked = false; antecedent = G.truth false; consequent = G.truth false; antecedentText = []; consequentText = [] }
 
-from-at : (text : Bytes) (ns : List Bytes) (s : ℕ) (arcs : List Arc) (i : ℕ) → i < length arcs → getD (edgesFrom text ns s arcs) i noEdge ≡ edgeIn text ns s (getD arcs i noArc)
-from-at text ns s [] i h = absurd (omega arith)
-from-at text ns s (a ∷ arcs) zero h = refl
-from-at text ns s (a ∷ arcs) (suc i) h = from-at text ns s arcs i (omega arith)
+from-at : (text : Bytes) (ns : List Bytes) (s : ℕ) (arcs : List Arc) (d : Edge) (i : ℕ) → i < length arcs → getD (edgesFrom text ns s arcs) i d ≡ edgeIn text ns s (getD arcs i noArc)
+from-at text ns s [] d i h = absurd (omega arith)
+from-at text ns s (a ∷ arcs) d zero h = refl
+from-at text ns s (a ∷ arcs) d (suc i) h = from-at text ns s arcs d i (omega arith)
 
 all-fit : (s k v : ℕ) (es : List Edge) → ((i : ℕ) → i < length es → EdgeFits s k v (getD es i noEdge)) → AllFit s k v es
 all-fit s k v [] h = tt
@@ -118,11 +119,11 @@ all-fit s k v (e ∷ es) h = (h 0 (omega arith), all-fit s k v es (λ i l. h (su
 -- ---- an accepted text
 module _ (text : Bytes) {graph : Graph} (read : graphOf text ≡ accepted graph) where
   names-held : namesIn text (heldOf text graph) ≡ graph .signals ++ graph .constants
-  unfolding heldOf
+  unfolding heldOf heldAs
   names-held = sound text read .names-held
 
-  pub edges-held : edgesIn text (heldOf text graph) ≡ graph .edges
-  unfolding edgesIn heldOf
+  pub edges-held : edgesIn text (heldOf text graph) ≡ chosen graph (graph .edges)
+  unfolding edgesIn heldOf heldAs
   edges-held =
       let w = sound text read in
       let arcs = heldOf text graph .arcs in
@@ -131,20 +132,21 @@ module _ (text : Bytes) {graph : Graph} (read : graphOf text ≡ accepted graph)
       let n : length (edgesFrom text ns (length (graph .signals)) (take E arcs)) ≡ E = from-length text ns (length (graph .signals)) (take E arcs) ∙ rw length-take (omega (arith, w .arcs-long, w .edges-few)) in
       let m : length (take E arcs) ≡ E = rw length-take (omega (arith, w .arcs-long, w .edges-few)) in
       rw names-held
-      (ext-getD noEdge (edgesFrom text ns (length (graph .signals)) (take E arcs)) (graph .edges) n
+      (ext-getD (choose graph noEdge) (edgesFrom text ns (length (graph .signals)) (take E arcs)) (chosen graph (graph .edges)) (n ∙ sym (length-chosen graph (graph .edges)))
       (λ i h.
       let h2 : i < E = omega (arith, n) in
-      from-at text ns (length (graph .signals)) (take E arcs) i (omega (arith, m))
+      from-at text ns (length (graph .signals)) (take E arcs) (choose graph noEdge) i (omega (arith, m))
       ∙ rw (getD-take E arcs i noArc h2)
-      (edge-held text (graph .signals) (graph .constants) (graph .vertices) (getD arcs i noArc) (getD (graph .edges) i noEdge) (w .edge-at i noEdge h2))))
+      (edge-held text (graph .signals) (graph .constants) (graph .vertices) _ (getD arcs i noArc) (getD (graph .edges) i noEdge) (w .edge-at i noEdge h2))
+      ∙ sym (List·getD-map (choose graph) (graph .edges) i noEdge)))
 
   pub good : GraphGood text (heldOf text graph)
-  unfolding heldOf
+  unfolding heldOf heldAs
   good =
       let w = sound text read in
       record {
         each = λ i h. rw names-held
-            (arc-good text (graph .signals) (graph .constants) (graph .vertices) (getD (heldOf text graph .arcs) i noArc) (getD (graph .edges) i noEdge) (w .edge-at i noEdge h));
+            (arc-good text (graph .signals) (graph .constants) (graph .vertices) _ (getD (heldOf text graph .arcs) i noArc) (getD (graph .edges) i noEdge) (w .edge-at i noEdge h));
         signals = w .signals-few;
         constants = w .constants-few;
         vertices = w .vertices-few;
@@ -160,5 +162,5 @@ module _ (text : Bytes) {graph : Graph} (read : graphOf text ≡ accepted graph)
         signals = w .signals-few;
         vertices = w .some-vertex;
         edges = all-fit (length (graph .signals)) (length (graph .constants)) (length (graph .vertices)) (graph .edges)
-            (λ i h. edge-fits text (graph .signals) (graph .constants) (graph .vertices) (getD (heldOf text graph .arcs) i noArc) (getD (graph .edges) i noEdge) (w .edge-at i noEdge h));
+            (λ i h. edge-fits text (graph .signals) (graph .constants) (graph .vertices) _ (getD (heldOf text graph .arcs) i noArc) (getD (graph .edges) i noEdge) (w .edge-at i noEdge h));
       }

@@ -7,13 +7,13 @@ use crate::chains::TERMINAL;
 use graph::CheckedGraph;
 
 // The key of an edge in the chain of accept.
-fn key(marked: bool) -> usize
-    ensures { λ r. ⌜ r ≡ markOf marked ⌝ }
+fn key(terminal: bool) -> usize
+    ensures { λ r. ⌜ r ≡ markOf terminal ⌝ }
 {
-    if marked { TERMINAL } else { 0 }
+    if terminal { TERMINAL } else { 0 }
 }
 
-// The to-vertices of the edges, and their marks.
+// The to-vertices of the edges, and their keys in the chain of accept.
 pub(crate) fn fill_columns(g: CheckedGraph, to: &mut [usize], marks: &mut [usize])
     requires { ⌜ (g .edges ≤ 128) × (length (g .arcs) ≡ 128) × (length (now to) ≡ 128) × (length (now marks) ≡ 128) ⌝ }
     ensures { λ _. ⌜ (take (g .edges) (now (to .exit)) ≡ arcTargets (take (g .edges) (g .arcs)))
@@ -24,7 +24,7 @@ pub(crate) fn fill_columns(g: CheckedGraph, to: &mut [usize], marks: &mut [usize
     while i < edges {
         let a = g.arcs[i];
         to[i] = a.to;
-        marks[i] = key(a.marked);
+        marks[i] = key(a.terminal);
         i += 1;
     }
 }

@@ -7,7 +7,7 @@ ghost use Rattle.graph.specs.Reading.{accepted, graphOf};
 ghost use Rattle.graph.specs.Held.{heldOf};
 ghost use Rattle.graph.specs.Private.Steps.{Kept};
 ghost use Rattle.circuit.specs.Count.{gateFormula};
-ghost use Rattle.builder.specs.Private.Machine.{summed, wordGates, gatesAt, fieldGates, arcGates, isReached, hasMark, reachedFrom};
+ghost use Rattle.builder.specs.Private.Machine.{summed, wordGates, gatesAt, fieldGates, arcGates, isReached, terminalAt, reachedFrom};
 use crate::formulas::AND;
 use crate::formulas::NO_NAME;
 use crate::formulas::OR;
@@ -120,16 +120,16 @@ fn entered(g: CheckedGraph, first: usize) -> usize
     sum
 }
 
-// How many edges have the mark.
-fn marks(g: CheckedGraph) -> usize
+// How many edges are terminal.
+fn terminals(g: CheckedGraph) -> usize
     requires { ⌜ g .edges ≤ 128 ⌝ }
-    ensures { λ r. ⌜ (r ≡ summed (hasMark (g .arcs)) 0 (g .edges)) × (r ≤ 128) ⌝ }
+    ensures { λ r. ⌜ (r ≡ summed (terminalAt (g .arcs)) 0 (g .edges)) × (r ≤ 128) ⌝ }
 {
     let mut sum: usize = 0;
     let mut i = 0;
     while i < g.edges {
         let e = g.arcs[i];
-        if e.marked {
+        if e.terminal {
             sum += 1;
         }
         i += 1;
@@ -152,7 +152,7 @@ pub(crate) fn gate_count(text: &[u8], g: CheckedGraph) -> usize
     let edges = g.edges;
     let later = less(edges, entered(g, 1));
     let all = less(edges, entered(g, 0));
-    let ends = less(marks(g), 1);
+    let ends = less(terminals(g), 1);
     let formulas = formulas_gates(text, g);
     7 * edges + later + all + ends + formulas
 }

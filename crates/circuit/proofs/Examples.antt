@@ -7,11 +7,13 @@ use lib.ListN.{length}
 use Rattle.netlist.specs.Meaning.{bools, signed, litOf, bitOf, gateOf, front, valuesOf, nextsOf, nextOf, outputOf}
 use Rattle.netlist.specs.Valid.{isFree}
 use Rattle.netlist.specs.Literals.{literalOf, variableOf, isInverted}
+use Rattle.assertion.specs.declared.Mode.{Mode}
+use Rattle.assertion.specs.declared.Mode.the-variants.{Unsaid, Terminal, Strong}
 use Rattle.assertion.specs.Graph.{Bytes, Expr, signal, constant, truth, Edge, Graph, Cycle, isTerminal}
 use Rattle.circuit.specs.Gates.{inv, gate}
 use Rattle.circuit.specs.Build.{firstEdgeLatch, firstGate, formula, happyOr, condemnedOr, edgePiece, masked, gathered, judged, accepted, gatesOf}
 use Rattle.circuit.specs.Numbers.{numbersOf}
-use Rattle.circuit.specs.Count.{formulaGates, gateFormula}
+use Rattle.circuit.specs.Count.{formulaGates, terminals, gateFormula}
 
 abbrev p : Bytes
 p = 112 ∷ []
@@ -23,9 +25,12 @@ abbrev edge : ℕ → ℕ → Bool → Expr → Bytes → Expr → Bytes → Edg
 edge f t m a at c ct =
     record { from = f; to = t; marked = m; antecedent = a; consequent = c; antecedentText = at; consequentText = ct }
 
--- `S p`, `S q`, `V a`, `V b` and these edges
+-- `S p`, `S q`, `V a`, `V b` and these edges, under a mode and without
+abbrev graphUnder : Mode → List Edge → Graph
+graphUnder m es = record { mode = m; signals = p ∷ q ∷ []; constants = []; vertices = (97 ∷ []) ∷ (98 ∷ []) ∷ []; edges = es }
+
 abbrev graph : List Edge → Graph
-graph es = record { signals = p ∷ q ∷ []; constants = []; vertices = (97 ∷ []) ∷ (98 ∷ []) ∷ []; edges = es }
+graph es = graphUnder Unsaid es
 
 -- `E a b t p q`, and `E b b t p 1`
 abbrev first : Edge
@@ -53,10 +58,15 @@ formula-of-two : gateFormula (graph (first ∷ loop ∷ [])) ≡ 17
 unfolding gateFormula formulaGates isTerminal
 formula-of-two = refl
 
--- ---- no terminal edge: the output is literal 1
-always-accepts : accepted (graph (unmarked ∷ [])) .out ≡ 1
+-- ---- G with `-` for `t`: under `M terminal` no edge is terminal, and the output is literal 1; without a mode the
+-- edge is terminal, and the numbers are G's
+always-accepts : accepted (graphUnder Terminal (unmarked ∷ [])) .out ≡ 1
 unfolding accepted judged gathered masked firstGate firstEdgeLatch edgePiece condemnedOr happyOr formula gate inv literalOf variableOf isInverted isTerminal
 always-accepts = refl
+
+unmarked-is-G : numbersOf (graph (unmarked ∷ [])) ≡ numbersOf (graph (first ∷ []))
+unfolding numbersOf gatesOf accepted judged gathered masked firstGate firstEdgeLatch edgePiece condemnedOr happyOr formula gate inv literalOf variableOf isInverted isTerminal
+unmarked-is-G = refl
 
 -- ---- what a monitor answers in one lane, cycle for cycle: true accepts
 abbrev answers : List ℕ → List Bool → List Cycle → List Bool
@@ -85,10 +95,45 @@ starts-anew : answers (numbersOf (graph (first ∷ loop ∷ []))) (false ∷ fal
 unfolding numbersOf gatesOf accepted judged gathered masked firstGate firstEdgeLatch edgePiece condemnedOr happyOr formula gate inv literalOf variableOf isInverted isTerminal outputOf nextOf nextsOf valuesOf front Rattle.netlist.specs.Meaning.gatesOf gateOf bitOf litOf signed
 starts-anew = refl
 
--- G with `-` for `t` on 110
-no-terminal : answers (numbersOf (graph (unmarked ∷ []))) (false ∷ false ∷ []) ((49 ∷ 49 ∷ 48 ∷ []) ∷ []) ≡ true ∷ []
+-- G with `-` for `t` under `M terminal` on 110
+no-terminal : answers (numbersOf (graphUnder Terminal (unmarked ∷ []))) (false ∷ false ∷ []) ((49 ∷ 49 ∷ 48 ∷ []) ∷ []) ≡ true ∷ []
 unfolding numbersOf gatesOf accepted judged gathered masked firstGate firstEdgeLatch edgePiece condemnedOr happyOr formula gate inv literalOf variableOf isInverted isTerminal outputOf nextOf nextsOf valuesOf front Rattle.netlist.specs.Meaning.gatesOf gateOf bitOf litOf signed
 no-terminal = refl
+
+-- ---- which edges are terminal: `V a` and `E a a - 1 0`, without a mode and under `M terminal`; then with
+-- `E a a t 1 1` behind it, under `M strong`, without a mode and under `M terminal`
+abbrev looped : Mode → List Edge → Graph
+looped m es = record { mode = m; signals = []; constants = []; vertices = (97 ∷ []) ∷ []; edges = es }
+
+abbrev fails : Edge
+fails = edge 0 0 false (truth true) (49 ∷ []) (truth false) (48 ∷ [])
+
+abbrev holds : Edge
+holds = edge 0 0 true (truth true) (49 ∷ []) (truth true) (49 ∷ [])
+
+abbrev five : List Graph
+five = looped Unsaid (fails ∷ []) ∷ looped Terminal (fails ∷ []) ∷ looped Strong (fails ∷ holds ∷ []) ∷ looped Unsaid (fails ∷ holds ∷ []) ∷ looped Terminal (fails ∷ holds ∷ []) ∷ []
+
+five-terminals : map (λ (g : Graph). terminals g (g .edges)) five ≡ 1 ∷ 0 ∷ 2 ∷ 1 ∷ 1 ∷ []
+unfolding isTerminal
+five-terminals = refl
+
+five-formulas : map gateFormula five ≡ 8 ∷ 8 ∷ 18 ∷ 17 ∷ 17 ∷ []
+unfolding gateFormula formulaGates isTerminal
+five-formulas = refl
+
+five-gates : map (λ (g : Graph). length (gatesOf g)) five ≡ 8 ∷ 8 ∷ 18 ∷ 17 ∷ 17 ∷ []
+unfolding gatesOf accepted judged gathered masked firstGate firstEdgeLatch edgePiece condemnedOr happyOr formula gate inv literalOf variableOf isInverted isTerminal
+five-gates = refl
+
+-- on one cycle with init
+one-answers : map (λ (m : Mode). answers (numbersOf (looped m (fails ∷ []))) (false ∷ false ∷ []) ((49 ∷ []) ∷ [])) (Unsaid ∷ Terminal ∷ []) ≡ (false ∷ []) ∷ (true ∷ []) ∷ []
+unfolding numbersOf gatesOf accepted judged gathered masked firstGate firstEdgeLatch edgePiece condemnedOr happyOr formula gate inv literalOf variableOf isInverted isTerminal outputOf nextOf nextsOf valuesOf front Rattle.netlist.specs.Meaning.gatesOf gateOf bitOf litOf signed
+one-answers = refl
+
+two-answers : map (λ (m : Mode). answers (numbersOf (looped m (fails ∷ holds ∷ []))) (false ∷ false ∷ false ∷ false ∷ []) ((49 ∷ []) ∷ [])) (Strong ∷ Unsaid ∷ Terminal ∷ []) ≡ (false ∷ []) ∷ (true ∷ []) ∷ (true ∷ []) ∷ []
+unfolding numbersOf gatesOf accepted judged gathered masked firstGate firstEdgeLatch edgePiece condemnedOr happyOr formula gate inv literalOf variableOf isInverted isTerminal outputOf nextOf nextsOf valuesOf front Rattle.netlist.specs.Meaning.gatesOf gateOf bitOf litOf signed
+two-answers = refl
 
 -- `E b b t 1 0`, `E a b - 1 1` and the other way round, each on 100, 000: the second cycle is rejected, by the path through b
 abbrev to-b : Edge
@@ -110,7 +155,7 @@ enters-first = refl
 -- `S p`, `K k`, one terminal edge `k`/`p` from the start vertex: on 10 the setting 1 rejects, and the latch of k takes every setting
 abbrev G-constant : Graph
 G-constant =
-    record { signals = p ∷ []; constants = (107 ∷ []) ∷ []; vertices = (97 ∷ []) ∷ (98 ∷ []) ∷ []; edges = edge 0 1 true (constant 0) (107 ∷ []) (signal 0) p ∷ [] }
+    record { mode = Unsaid; signals = p ∷ []; constants = (107 ∷ []) ∷ []; vertices = (97 ∷ []) ∷ (98 ∷ []) ∷ []; edges = edge 0 1 true (constant 0) (107 ∷ []) (signal 0) p ∷ [] }
 
 -- the setting 1
 constant-rejects : answers (numbersOf (G-constant)) (true ∷ false ∷ false ∷ []) ((49 ∷ 48 ∷ []) ∷ []) ≡ false ∷ []

@@ -9,6 +9,7 @@ use Rattle.netlist.specs.Literals.{literalOf, variableOf, isInverted}
 use Rattle.netlist.specs.Lanes.{lane, each, numberOf, wordOf}
 use Rattle.netlist.specs.Meaning.{signed, litOf, bitOf, gateOf, front, valuesOf, nextsOf, nextOf, outputOf}
 use Rattle.netlist.specs.Valid.{headerOk, isWithin, isFree, latchOk, freeCount, outputOk, gateOk, isNetlist}
+use Rattle.assertion.specs.declared.Mode.the-variants.{Unsaid}
 use Rattle.assertion.specs.Graph.{Bytes, signal, Graph, isTerminal}
 use Rattle.circuit.specs.Build.{firstEdgeLatch, firstGate, formula, happyOr, condemnedOr, edgePiece, masked, gathered, judged, accepted, gatesOf}
 use Rattle.circuit.specs.Numbers.{numbersOf}
@@ -37,6 +38,7 @@ q = 113 ∷ []
 abbrev G : Graph
 G =
     record {
+      mode = Unsaid;
       signals = p ∷ q ∷ [];
       constants = [];
       vertices = (97 ∷ []) ∷ (98 ∷ []) ∷ [];

@@ -90,12 +90,15 @@ aigerRows =
     -- `=`, `|`, `^`, `!` and a constant
     ∷ row "S\tp\nK\tk\nV\ta\nE\ta\ta\tt\tp=k|!p\t0^1\n"
     "aag 20 2 3 1 15\n2\n4\n6 6 6\n8 34\n10 41\n40\n12 8 3\n14 10 3\n16 13 3\n18 7 4\n20 19 4\n22 18 5\n24 23 21\n26 1 0\n28 1 0\n30 29 27\n32 25 17\n34 32 30\n36 32 31\n38 25 14\n40 39 37\n"
-    -- no terminal edge: output literal 1
-    ∷ row "S\tp\nS\tq\nV\ta\nV\tb\nE\ta\tb\t-\tp\tq\n"
+    -- G with `-` for `t`: with `M terminal` no edge is terminal, and the output is literal 1; without it the edge is, and
+    -- the file is G's
+    ∷ row "M\tterminal\nS\tp\nS\tq\nV\ta\nV\tb\nE\ta\tb\t-\tp\tq\n"
     "aag 12 3 2 1 7\n2\n4\n6\n8 18\n10 25\n1\n12 8 3\n14 10 3\n16 4 2\n18 16 6\n20 16 7\n22 4 0\n24 23 21\n"
+    ∷ row "S\tp\nS\tq\nV\ta\nV\tb\nE\ta\tb\t-\tp\tq\n"
+    "aag 12 3 2 1 7\n2\n4\n6\n8 18\n10 25\n24\n12 8 3\n14 10 3\n16 4 2\n18 16 6\n20 16 7\n22 4 0\n24 23 21\n"
     ∷ []
 
 -- both programs print what the table says
 tables-hold : (printed monitorText monitorRows .found ≡ printed monitorText monitorRows .due) × (printed aigerText aigerRows .found ≡ printed aigerText aigerRows .due)
-unfolding numbers.digitsOf numbers.digits classes.classOf classes.strengthOf classes.isLetter classes.isWordClass classes.startOf classes.run classes.nameBytes classes.isName grammar.andThen grammar.nameOf grammar.closed grammar.whole grammar.treeOf grammar.depthOf grammar.operandOf grammar.expressionOf grammar.restOf graph.isTerminal graph.input graph.isInit graph.holds paths.rejectsAlong paths.rejectedUnder paths.isRejected paths.countRejected pieces.onto pieces.split pieces.same pieces.placeOf pieces.lookUp records.named records.marked records.edged records.ofFields records.recordOf reading.faultNumber reading.refusalOf reading.known reading.joined reading.symbol reading.resolved reading.judgedTree reading.treeExpr reading.lower reading.addSignal reading.addConstant reading.addVertex reading.edgeOf reading.unlessFaulty reading.judgeEdge reading.addEdge reading.add reading.finished reading.readLines reading.graphOf literals.literalOf literals.variableOf literals.isInverted gates.inv gates.gate monitor.firstEdgeLatch monitor.firstGate monitor.formula monitor.happyOr monitor.condemnedOr monitor.edgePiece monitor.masked monitor.gathered monitor.judged monitor.accepted monitor.gatesOf circuit.numbersOf build.refusalOf build.variablesOf rows.line rows.headerRow rows.literalRow rows.latchRow rows.gateRow format.inputLine format.latchLine format.outputLine format.gateLine format.fileWith format.fileOf traces.isBit traces.fitsLine traces.faultFrom traces.faultOf traces.lineCount traces.cyclesFrom traces.cyclesOf calls.refusalOf run.verdictOf parts.bytesBefore parts.graphPart parts.tracePart lines.field lines.refusedLine lines.rejectedLine lines.verdictField lines.sumLine lines.cycleLine lines.report pages.graphPage judge.inputsOf pages.judgement pages.tracePage pages.monitorText pages.aigerText
+unfolding numbers.digitsOf numbers.digits classes.classOf classes.strengthOf classes.isLetter classes.isWordClass classes.startOf classes.run classes.nameBytes classes.isName grammar.andThen grammar.nameOf grammar.closed grammar.whole grammar.treeOf grammar.depthOf grammar.operandOf grammar.expressionOf grammar.restOf graph.isTerminal graph.input graph.isInit graph.holds paths.rejectsAlong paths.rejectedUnder paths.isRejected paths.countRejected pieces.onto pieces.split pieces.same pieces.placeOf pieces.lookUp records.moded records.named records.marked records.edged records.ofFields records.recordOf reading.faultNumber reading.refusalOf reading.known reading.joined reading.symbol reading.resolved reading.judgedTree reading.treeExpr reading.lower reading.modeLines reading.addMode reading.addSignal reading.addConstant reading.addVertex reading.edgeOf reading.unlessFaulty reading.judgeEdge reading.addEdge reading.add reading.finished reading.readLines reading.graphOf literals.literalOf literals.variableOf literals.isInverted gates.inv gates.gate monitor.firstEdgeLatch monitor.firstGate monitor.formula monitor.happyOr monitor.condemnedOr monitor.edgePiece monitor.masked monitor.gathered monitor.judged monitor.accepted monitor.gatesOf circuit.numbersOf build.refusalOf build.variablesOf rows.line rows.headerRow rows.literalRow rows.latchRow rows.gateRow format.inputLine format.latchLine format.outputLine format.gateLine format.fileWith format.fileOf traces.isBit traces.fitsLine traces.faultFrom traces.faultOf traces.lineCount traces.cyclesFrom traces.cyclesOf calls.refusalOf run.verdictOf parts.bytesBefore parts.graphPart parts.tracePart lines.field lines.refusedLine lines.rejectedLine lines.verdictField lines.sumLine lines.cycleLine lines.report pages.graphPage judge.inputsOf pages.judgement pages.tracePage pages.monitorText pages.aigerText
 tables-hold = (refl, refl)

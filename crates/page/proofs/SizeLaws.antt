@@ -9,9 +9,12 @@ use borrow.Author.Tests.{ltb-false, eqb-false}
 use lib.Dec.{eqb, ltb, leb}
 use lib.ListN.{length, length-append}
 use Rattle.text.specs.declared.Refusal.{Refusal}
+use Rattle.text.specs.Quoted.{bytes}
 use Rattle.formula.specs.Classes.{pick, isName}
 use Rattle.formula.specs.Grammar.{none, andThen, operandOf, expressionOf, whole, treeOf}
 use Rattle.assertion.specs.Graph.{Bytes, Edge, Graph}
+use Rattle.assertion.specs.declared.Mode.{Mode}
+use Rattle.assertion.specs.declared.Mode.the-variants.{Terminal, Strong}
 use Rattle.graph.specs.declared.Fault.{Fault}
 use Rattle.graph.specs.declared.Fault.the-variants.{WrongShape, WrongOrder, TooMany, NameRepeated, UnknownVertex, NotFormula, TooDeep, UnknownName}
 use Rattle.graph.specs.declared.Judged.{Judged}
@@ -19,8 +22,8 @@ use Rattle.graph.specs.declared.Judged.the-variants.{Fine, Faulty}
 use Rattle.graph.specs.declared.Cause.{Cause}
 use Rattle.graph.specs.declared.Cause.the-variants.{TextTooLong, FaultyLine, NoVertex}
 use Rattle.graph.specs.Pieces.{onto, split, same, lookUp}
-use Rattle.graph.specs.Records.{Record, shapeless, signal, constant, vertex, edge, named, marked, edged, ofFields, recordOf}
-use Rattle.graph.specs.Reading.{refusalOf, faultNumber, namesOf, judgedTree, judgedFormula, lower, Step, fault, went, addSignal, addConstant, addVertex, edgeOf, unlessFaulty, judgeEdge, addEdge, add, refused, accepted, finished, readLines, nothing, graphOf}
+use Rattle.graph.specs.Records.{Record, shapeless, mode, signal, constant, vertex, edge, moded, named, marked, edged, ofFields, recordOf}
+use Rattle.graph.specs.Reading.{refusalOf, faultNumber, namesOf, judgedTree, judgedFormula, lower, Step, fault, went, modeLines, addMode, addSignal, addConstant, addVertex, edgeOf, unlessFaulty, judgeEdge, addEdge, add, refused, accepted, finished, readLines, nothing, graphOf}
 
 -- ---- the pieces of a text: their bytes, and one for the byte after each
 total : List Bytes → ℕ
@@ -58,32 +61,41 @@ adds-graph : (g : Graph) (t : ℕ) (n : Graph) → size n ≤ size g + t → Add
 unfolding Adds
 adds-graph g t n l h e = let q : n ≡ h = cc in subst (λ (x : Graph). size x ≤ size g + t) q l
 
--- a record that three tests let through
+-- a record that one test lets through, and one that three do
+adds-unless : (g : Graph) (t : ℕ) (a : Bool) (f : Fault) (n : Graph) → size n ≤ size g + t → Adds g t (pick a (fault f) (went n))
+adds-unless g t true f n l = adds-fault g t f
+adds-unless g t false f n l = adds-graph g t n l
+
 adds-tested : (g : Graph) (t : ℕ) (a b c : Bool) (f1 f2 f3 : Fault) (n : Graph) → size n ≤ size g + t
     → Adds g t (pick a (fault f1) (pick b (fault f2) (pick c (fault f3) (went n))))
 adds-tested g t true b c f1 f2 f3 n l = adds-fault g t f1
 adds-tested g t false true c f1 f2 f3 n l = adds-fault g t f2
-adds-tested g t false false true f1 f2 f3 n l = adds-fault g t f3
-adds-tested g t false false false f1 f2 f3 n l = adds-graph g t n l
+adds-tested g t false false c f1 f2 f3 n l = adds-unless g t c f3 n l
 
 module _ (g : Graph) (t : ℕ) where
   same-size : 4 * length (g .vertices) + 12 * length (g .edges) ≤ size g + t
   unfolding size
   same-size = omega arith
 
+  mode-adds : (m : Mode) → Adds g t (addMode g m)
+  unfolding addMode size
+  mode-adds m =
+      adds-unless g t (ltb 0 (modeLines (g .mode) + length (g .signals) + length (g .constants) + length (g .vertices) + length (g .edges))) WrongOrder
+      (record { mode = m; signals = g .signals; constants = g .constants; vertices = g .vertices; edges = g .edges }) same-size
+
   signal-adds : (n : Bytes) → Adds g t (addSignal g n)
   unfolding addSignal size
   signal-adds n =
       adds-tested g t (ltb 0 (length (g .constants) + length (g .vertices) + length (g .edges))) (leb 63 (length (g .signals))) (lookUp n (namesOf g) .known)
       WrongOrder TooMany NameRepeated
-      (record { signals = g .signals ++ (n ∷ []); constants = g .constants; vertices = g .vertices; edges = g .edges }) same-size
+      (record { mode = g .mode; signals = g .signals ++ (n ∷ []); constants = g .constants; vertices = g .vertices; edges = g .edges }) same-size
 
   constant-adds : (n : Bytes) → Adds g t (addConstant g n)
   unfolding addConstant size
   constant-adds n =
       adds-tested g t (ltb 0 (length (g .vertices) + length (g .edges))) (leb 6 (length (g .constants))) (lookUp n (namesOf g) .known)
       WrongOrder TooMany NameRepeated
-      (record { signals = g .signals; constants = g .constants ++ (n ∷ []); vertices = g .vertices; edges = g .edges }) same-size
+      (record { mode = g .mode; signals = g .signals; constants = g .constants ++ (n ∷ []); vertices = g .vertices; edges = g .edges }) same-size
 
   vertex-adds : (n : Bytes) → 4 ≤ t → Adds g t (addVertex g n)
   unfolding addVertex size
@@ -91,7 +103,7 @@ module _ (g : Graph) (t : ℕ) where
       let l : 4 * length (g .vertices ++ (n ∷ [])) + 12 * length (g .edges) ≤ size g + t = omega (arith, length-append (g .vertices) (n ∷ [])) in
       adds-tested g t (ltb 0 (length (g .edges))) (leb 64 (length (g .vertices))) (lookUp n (g .vertices) .known)
       WrongOrder TooMany NameRepeated
-      (record { signals = g .signals; constants = g .constants; vertices = g .vertices ++ (n ∷ []); edges = g .edges }) l
+      (record { mode = g .mode; signals = g .signals; constants = g .constants; vertices = g .vertices ++ (n ∷ []); edges = g .edges }) l
 
   -- an edge that was taken has two formulas, and none is empty
   fine-some : (ns : List Bytes) (s : Bytes) → judgedFormula ns s ≡ Fine → 1 ≤ length s
@@ -110,7 +122,7 @@ module _ (g : Graph) (t : ℕ) where
   fine-adds Fine e h =
       let k = h refl in
       let l : 4 * length (g .vertices) + 12 * length (g .edges ++ (e ∷ [])) ≤ size g + t = omega (arith, length-append (g .edges) (e ∷ [])) in
-      adds-graph g t (record { signals = g .signals; constants = g .constants; vertices = g .vertices; edges = g .edges ++ (e ∷ []) }) l
+      adds-graph g t (record { mode = g .mode; signals = g .signals; constants = g .constants; vertices = g .vertices; edges = g .edges ++ (e ∷ []) }) l
   fine-adds (Faulty f) e h = adds-fault g t f
 
   edge-adds : (f v : Bytes) (m : Bool) (a c : Bytes) → (1 ≤ length a → 1 ≤ length c → 12 ≤ t) → Adds g t (addEdge g f v m a c)
@@ -156,17 +168,27 @@ module _ (g : Graph) where
   abbrev two : Bytes → Bytes → ℕ
   two k n = length k + 1 + (length n + 1 + 0)
 
+  moded-adds : (t : ℕ) (w : Bytes) → AddsRecord t (moded w)
+  unfolding moded add
+  moded-adds t w = go (same w (bytes "terminal")) (same w (bytes "strong"))
+    where
+      go : (a b : Bool) → AddsRecord t (pick a (mode Terminal) (pick b (mode Strong) shapeless))
+      go true b = mode-adds g t Terminal
+      go false true = mode-adds g t Strong
+      go false false = shapeless-adds t
+
   named-adds : (k n : Bytes) → AddsRecord (two k n) (named k n)
   unfolding named add
-  named-adds k n = go (isName n) refl (same k (83 ∷ [])) (same k (75 ∷ [])) (same k (86 ∷ [])) refl
+  named-adds k n = go (same k (77 ∷ [])) (isName n) refl (same k (83 ∷ [])) (same k (75 ∷ [])) (same k (86 ∷ [])) refl
     where
-      go : (a : Bool) → isName n ≡ a → (b c d : Bool) → same k (86 ∷ []) ≡ d
-          → AddsRecord (two k n) (pick a (pick b (signal n) (pick c (constant n) (pick d (vertex n) shapeless))) shapeless)
-      go false p b c d q = shapeless-adds (two k n)
-      go true p true c d q = signal-adds g (two k n) n
-      go true p false true d q = constant-adds g (two k n) n
-      go true p false false true q = vertex-adds g (two k n) n (omega (arith, one-byte k 86 q, name-some n p))
-      go true p false false false q = shapeless-adds (two k n)
+      go : (m a : Bool) → isName n ≡ a → (b c d : Bool) → same k (86 ∷ []) ≡ d
+          → AddsRecord (two k n) (pick m (moded n) (pick a (pick b (signal n) (pick c (constant n) (pick d (vertex n) shapeless))) shapeless))
+      go true a p b c d q = moded-adds (two k n) n
+      go false false p b c d q = shapeless-adds (two k n)
+      go false true p true c d q = signal-adds g (two k n) n
+      go false true p false true d q = constant-adds g (two k n) n
+      go false true p false false true q = vertex-adds g (two k n) n (omega (arith, one-byte k 86 q, name-some n p))
+      go false true p false false false q = shapeless-adds (two k n)
 
   abbrev six : Bytes → Bytes → Bytes → Bytes → Bytes → Bytes → ℕ
   six k f v m a c = length k + 1 + (length f + 1 + (length v + 1 + (length m + 1 + two a c)))

@@ -27,13 +27,13 @@ pub record Accepted (text : Bytes) (g : CheckedGraph) : Type 0 where
 abbrev pub namesIn : Bytes → CheckedGraph → List Bytes
 namesIn text g = listed text (g .names) (g .signals + g .constants)
 
--- an edge whose formulas stand in the text; ns are the names, of which s are signals
+-- an edge whose formulas stand in the text, marked where it is terminal; ns are the names, of which s are signals
 unfoldable pub edgeIn : Bytes → List Bytes → ℕ → Arc → Edge
 edgeIn text ns s a =
     record {
       from = a .from;
       to = a .to;
-      marked = a .marked;
+      marked = a .terminal;
       antecedent = treeExpr s ns (leftOf text a) (treeOf (leftOf text a));
       consequent = treeExpr s ns (rightOf text a) (treeOf (rightOf text a));
       antecedentText = leftOf text a;
@@ -97,7 +97,7 @@ arcTargets (a ∷ more) = a .to ∷ arcTargets more
 
 abbrev pub arcMarks : List Arc → List ℕ
 arcMarks [] = []
-arcMarks (a ∷ more) = markOf (a .marked) ∷ arcMarks more
+arcMarks (a ∷ more) = markOf (a .terminal) ∷ arcMarks more
 
 abbrev pub targets : List Edge → List ℕ
 targets [] = []

@@ -120,9 +120,9 @@ goesTo arcs v i = cond (eqb (getD arcs i noArc .to) v) 1 0
 unfoldable pub isReached : List Arc → ℕ → ℕ → ℕ
 isReached arcs edges v = min 1 (summed (goesTo arcs v) 0 edges)
 
--- 1 where an edge has the mark
-unfoldable pub hasMark : List Arc → ℕ → ℕ
-hasMark arcs i = cond (getD arcs i noArc .marked) 1 0
+-- 1 where an edge is terminal
+unfoldable pub terminalAt : List Arc → ℕ → ℕ
+terminalAt arcs i = cond (getD arcs i noArc .terminal) 1 0
 
 -- how many of the vertices from the first on have an incoming edge
 abbrev pub reachedFrom : CheckedGraph → ℕ → ℕ
@@ -132,4 +132,4 @@ reachedFrom g first = summed (isReached (g .arcs) (g .edges)) first (g .vertices
 unfoldable pub gatesBy : Bytes → CheckedGraph → ℕ
 gatesBy text g =
     7 * g .edges + (g .edges - reachedFrom g 1) + (g .edges - reachedFrom g 0)
-    + (summed (hasMark (g .arcs)) 0 (g .edges) - 1) + summed (arcGates text (g .arcs)) 0 (g .edges)
+    + (summed (terminalAt (g .arcs)) 0 (g .edges) - 1) + summed (arcGates text (g .arcs)) 0 (g .edges)

@@ -18,7 +18,7 @@ gatherOf ts vertices edges l f = verticesOf (f + length (maskGates l (2 * edges)
 unfoldable pub gatherGates : List ℕ → ℕ → ℕ → ℕ → ℕ → List Gate
 gatherGates ts vertices edges l f = maskGates l (2 * edges) ++ gatherOf ts vertices edges l f .gates
 
--- then the edges, from the literals of the vertices, and accept; ms are the marks
+-- then the edges, from the literals of the vertices, and accept; ms tell the terminal edges
 unfoldable pub acceptAfter : ℕ → ℕ → List ℕ → List ℕ → List ℕ → List Edge → Piece
 acceptAfter s n hs ds ms es = let e = edgesOf s n hs ds es in acceptOf (n + length (e .gates)) ms (e .condemned)
 

@@ -17,8 +17,8 @@ entered-requires-2 c κs = search needs
 less-requires-2 : tie.Need-less-requires-2
 less-requires-2 c κs = search needs
 
-marks-requires : tie.Need-marks-requires
-marks-requires c κs = search needs
+terminals-requires : tie.Need-terminals-requires
+terminals-requires c κs = search needs
 
 less-requires-3 : tie.Need-less-requires-3
 less-requires-3 c κs = search needs
@@ -46,7 +46,7 @@ unfolding gatesBy
 returns c =
     let m = c .before .before in
     let e = m .before .before .before .before in
-    λ graph h w. rw (c .before .less3 .ensures, m .marks .ensures .0, m .before .less2 .ensures, m .before .before .entered2 .ensures, m .before .before .before .less .ensures, e .entered .ensures, c .formulas-gates .ensures .0) (counted (e .before .before .args .text .now) graph h w)
+    λ graph h w. rw (c .before .less3 .ensures, m .terminals .ensures .0, m .before .less2 .ensures, m .before .before .entered2 .ensures, m .before .before .before .less .ensures, e .entered .ensures, c .formulas-gates .ensures .0) (counted (e .before .before .args .text .now) graph h w)
 
 pub gate-count-spec : {M : Type 1} → statement M
 gate-count-spec =
@@ -56,7 +56,7 @@ gate-count-spec =
     less-requires
     entered-requires-2
     less-requires-2
-    marks-requires
+    terminals-requires
     less-requires-3
     formulas-gates-requires
     mul-result

@@ -39,7 +39,7 @@ pub record Graph : Type 0 where
   pub vertices : List Bytes
   pub edges : List Edge
 
--- Which edges are terminal. "A graph in which no edge is `t` shall be judged as if each were. A first line
+-- Which edges are terminal. "A graph in which no edge is `t` shall be judged as if each were .. a first line
 -- `M`, tab, `terminal` keeps the old rule", by which they are the edges with the mark; "`M`, tab, `strong`
 -- makes each edge terminal."
 unfoldable pub isTerminal : Graph → Edge → Bool

@@ -5,20 +5,25 @@ use mathlib.Core.Logic.{_⊎_, inl, inr}
 use mathlib.Core.Bool.{Bool, true, false, cond}
 use mathlib.Core.List.{List, [], _∷_, List·Memᴰ, List·Memᴰ·head, List·Memᴰ·tail}
 use native.Mathlib.Omega.{arith}
-use lib.ListN.{length, getD}
+use borrow.Author.Tests.{lt-ltb}
+use lib.ListN.{length, getD, drop}
 use Rattle.assertion.specs.Graph.{Bytes, truth, Edge, Graph, isTerminal}
 use Rattle.assertion.specs.Paths.{TerminalEdge}
 use Rattle.assertion.specs.Paths.TerminalEdge.{by-mode, by-mark, unmarked}
 use Rattle.assertion.proofs.TerminalLaws.{reason, for-reason}
-use Rattle.graph.specs.Held.{noArc, heldAs, heldOf, readOf}
-use Rattle.graph.specs.Claims.{MarkAt, GraphMeans}
-use Rattle.graph.specs.ModeClaims.{Chosen, EdgeChosen, ModeMeans}
+use Rattle.graph.specs.Reading.{accepted, refusalOf, graphOf}
+use Rattle.graph.specs.Held.{noArc, heldAs, heldOf, answerOf, readOf}
+use Rattle.graph.specs.Claims.{breaks, MarkAt, GraphMeans}
+use Rattle.graph.specs.ModeClaims.{Chosen, EdgeChosen, Answered, ModeMeans}
 use Rattle.graph.specs.ModeClaims.Chosen.{mode-strong, mark-t, no-mark}
+use Rattle.graph.specs.declared.Cause.{Cause}
+use Rattle.graph.specs.declared.Cause.the-variants.{TextTooLong}
+use Rattle.graph.specs.declared.ReadOutcome.the-variants.{Refused}
 use Rattle.graph.specs.declared.CheckedGraph.{CheckedGraph}
 use Rattle.graph.specs.declared.GraphRead.{GraphRead}
 use Rattle.graph.proofs.HeldLaws.{sound}
 use Rattle.graph.proofs.AnswerLaws.{CheckedText, checked-text}
-use Rattle.graph.proofs.ModeTextLaws.{first-line, mode-again, word-wrong, word-missing, lf-missing}
+use Rattle.graph.proofs.ModeTextLaws.{refused-outcome, first-line, mode-again, word-wrong, word-missing, lf-missing}
 use Rattle.graph.proofs.UnseenLaws.{unseen}
 
 -- ---- all edges of a list, by index
@@ -70,6 +75,11 @@ module _ {text : Bytes} {g : CheckedGraph} (t : CheckedText text g) where
   is-terminal : (i : ℕ) → i < g .edges → getD (g .arcs) i noArc .terminal ≡ isTerminal graph (edge i)
   is-terminal i h = subst (λ (x : CheckedGraph). getD (x .arcs) i noArc .terminal ≡ isTerminal graph (edge i)) (sym (t .arrays)) (t .graph-sound .edge-at i noEdge (inside h) .terminal-is)
 
+  own-line : (i : ℕ) → i < g .edges → breaks (drop (getD (g .arcs) i noArc .left) text) ≡ g .edges - i
+  own-line i h =
+      let z : length (graph .edges) - i ≡ g .edges - i = omega (arith, t .edges-are) in
+      subst (λ (x : CheckedGraph). breaks (drop (getD (x .arcs) i noArc .left) text) ≡ g .edges - i) (sym (t .arrays)) (t .graph-sound .own-line i (inside h) ∙ z)
+
   mode-is : g .mode ≡ graph .mode
   unfolding heldOf heldAs
   mode-is = ap (λ (x : CheckedGraph). x .mode) (t .arrays)
@@ -89,6 +99,7 @@ module _ {text : Bytes} {g : CheckedGraph} (t : CheckedText text g) where
   edge-chosen : (i : ℕ) → i < g .edges → EdgeChosen text g i
   edge-chosen i h =
       record {
+        own-line = own-line i h;
         tab-before = at i h .tab-before;
         mark = mark-or (edge i .marked) (at i h .mark);
         tab-after = at i h .tab-after;
@@ -96,10 +107,22 @@ module _ {text : Bytes} {g : CheckedGraph} (t : CheckedText text g) where
         chosen = λ k. is-terminal i h ∙ for-reason graph (edge i) (back i h k);
       }
 
+-- ---- what is answered
+answered : (text : Bytes) {r : GraphRead} → r ≡ readOf text → (graph : Graph) → graphOf text ≡ accepted graph → Answered graph r
+unfolding readOf answerOf heldOf heldAs
+answered text e graph h = rw (e, h) (record { checked = refl; mode = refl; edges = refl })
+
+too-long : (text : Bytes) {r : GraphRead} → r ≡ readOf text → 32768 < length text → (cause : Cause) × (r .outcome ≡ Refused cause) × (refusalOf cause ≡ record { number = 1; line = 0 })
+unfolding graphOf refusalOf
+too-long text e h = (TextTooLong, refused-outcome text (rw (lt-ltb 32768 (length text) h)) e, refl)
+
 -- THE LAW
 pub mode-means : (text : Bytes) {r : GraphRead} → r ≡ readOf text → ModeMeans text r
 mode-means text {r} e =
     record {
+      accepts = answered text e;
+      refuses = λ cause h. refused-outcome text h e;
+      too-long = too-long text e;
       first-line = λ h. let t = checked-text text e h in rw (mode-is t) (first-line text (t .accepts));
       terminal = λ h i l. edge-chosen (checked-text text e h) i l;
       another = λ before word after m w q n short. mode-again w q n short e;

@@ -86,7 +86,7 @@ Fits text k (signal n) = pieceAt 10 text (fieldAt text k 1) ≡ n
 Fits text k (constant n) = pieceAt 10 text (fieldAt text k 1) ≡ n
 Fits text k (vertex n) = pieceAt 10 text (fieldAt text k 1) ≡ n
 Fits text k (edge f t m a c) =
-    FormulaAt text (fieldAt text k 4) (fieldLength (lineOf text k) 4) a × FormulaAt text (fieldAt text k 5) (fieldLength (lineOf text k) 5) c × MarkAt text (fieldAt text k 4) m
+    FormulaAt text (fieldAt text k 4) (fieldLength (lineOf text k) 4) a × FormulaAt text (fieldAt text k 5) (fieldLength (lineOf text k) 5) c × MarkAt text (fieldAt text k 4) m × (fieldStart (lineOf text k) 4 ≤ length (lineOf text k))
 
 module _ (text : Bytes) (k : ℕ) where
   pick-fits : (t : Bool) (x y : Record) → Fits text k x → Fits text k y → Fits text k (pick t x y)
@@ -148,8 +148,7 @@ module _ (text : Bytes) (k : ℕ) where
       let one : endAt 9 line s3 ≡ s3 + 1 = one-long line s3 (p ∙ e) in
       let z3 : lineStart text k + (endAt 9 line s3 + 1) - 3 ≡ lineStart text k + endAt 9 line s2 = omega (arith, one) in
       let z2 : lineStart text k + (endAt 9 line s3 + 1) - 2 ≡ lineStart text k + s3 = omega (arith, one) in
-      let z1 : lineStart text k + (endAt 9 line s3 + 1) - 1 ≡ lineStart text k + endAt 9 line s3 = omega (arith, one) in
-      (
+      let z1 : lineStart text k + (endAt 9 line s3 + 1) - 1 ≡ lineStart text k + endAt 9 line s3 = omega (arith, one) in (
         rw z3 (byte-fits (endAt 9 line s2) l2 ∙ end-byte 9 line s2 l2),
         rw z2 (byte-fits s3 (omega (arith, one)) ∙ one-byte line s3 (p ∙ e)),
         rw z1 (byte-fits (endAt 9 line s3) l3 ∙ end-byte 9 line s3 l3),
@@ -165,11 +164,11 @@ module _ (text : Bytes) (k : ℕ) where
       let o = one-left 9 line (fieldStart line 5) c (t4 .2) in
       let d2 = two-left 9 line (fieldStart line 2) t m _ (t1 .2) in
       let d3 = two-left 9 line (fieldStart line 3) m a _ (t2 .2) in
-      let w = mark-fits m (cond b 116 45) (d2 .1) (d3 .0) (d3 .1) (same-equal m (cond b 116 45 ∷ []) q) in
-      (
+      let w = mark-fits m (cond b 116 45) (d2 .1) (d3 .0) (d3 .1) (same-equal m (cond b 116 45 ∷ []) q) in (
         formula-fits 4 a (t4 .0),
         formula-fits 5 c (piece-last 9 line (fieldStart line 5) _ refl (o .1) ∙ o .0),
         record { tab-before = w .0; mark = w .1; tab-after = w .2 },
+        t3 .1,
       )
 
   fields-fit : (fs : List Bytes) → split 9 line ≡ fs → Fits text k (ofFields fs)

@@ -45,7 +45,7 @@ use Rattle.graph.specs.Reading.{
   nothing,
   graphOf,
 }
-use Rattle.graph.specs.Held.{lineStart, lineOf, fieldAt, namePlaces, arcOf, arcsOf, noArc, filled, heldAs, heldOf}
+use Rattle.graph.specs.Held.{lineStart, lineOf, fieldStart, fieldAt, namePlaces, arcOf, arcsOf, noArc, filled, heldAs, heldOf}
 use Rattle.graph.specs.Private.Steps.{held, namedOf, recordsOf}
 use Rattle.graph.specs.declared.Fault.{Fault}
 use Rattle.graph.specs.declared.Cause.the-variants.{TextTooLong, FaultyLine, NoVertex}
@@ -53,15 +53,22 @@ use Rattle.graph.specs.declared.Judged.{Judged}
 use Rattle.graph.specs.declared.Judged.the-variants.{Fine, Faulty}
 use Rattle.graph.specs.declared.Arc.{Arc}
 use Rattle.graph.specs.Claims.{FormulaAt, FormulaSound, EdgeSound, Sound}
+use Rattle.graph.proofs.PieceLaws.{split-some}
+use Rattle.graph.proofs.BreakLaws.{breaks-from}
 use Rattle.graph.proofs.ModeLineLaws.{mode-said}
 use Rattle.graph.proofs.FieldLaws.{Fits, line-fits, two-left}
 use Rattle.graph.proofs.ArrayLaws.{filled-length, places-length, places-more, places-first, none-list, one-more, arcs-length}
 
 -- ---- what is claimed
--- edges whose first is line n, terminal or not
+-- an edge of line n, terminal or not
+pub record EdgeHere (text : Bytes) (ss cs vs : List Bytes) (n : ℕ) (e : Edge) : Type 0 where
+  pub holds : (t : Bool) → EdgeSound text ss cs vs t (arcOf text n t e) e
+  pub inside : fieldStart (lineOf text n) 4 ≤ length (lineOf text n)
+
+-- edges whose first is line n
 abbrev pub EdgesSound : Bytes → List Bytes → List Bytes → List Bytes → ℕ → List Edge → Type 0
 EdgesSound text ss cs vs n [] = Unit {0}
-EdgesSound text ss cs vs n (e ∷ es) = ((t : Bool) → EdgeSound text ss cs vs t (arcOf text n t e) e) × EdgesSound text ss cs vs (n + 1) es
+EdgesSound text ss cs vs n (e ∷ es) = EdgeHere text ss cs vs n e × EdgesSound text ss cs vs (n + 1) es
 
 -- the graph of the lines read so far
 pub record Grown (text : Bytes) (graph : Graph) : Type 0 where
@@ -121,7 +128,7 @@ held-none : (text : Bytes) (n : ℕ) → held text (namePlaces text n 0) ≡ []
 unfolding namePlaces
 held-none text n = refl
 
-edges-more : (text : Bytes) (ss cs vs : List Bytes) (n : ℕ) (es : List Edge) (e : Edge) → EdgesSound text ss cs vs n es → ((t : Bool) → EdgeSound text ss cs vs t (arcOf text (n + length es) t e) e) → EdgesSound text ss cs vs n (es ++ (e ∷ []))
+edges-more : (text : Bytes) (ss cs vs : List Bytes) (n : ℕ) (es : List Edge) (e : Edge) → EdgesSound text ss cs vs n es → EdgeHere text ss cs vs (n + length es) e → EdgesSound text ss cs vs n (es ++ (e ∷ []))
 edges-more text ss cs vs n [] e h k = (rw (add-zero n) at k, tt)
 edges-more text ss cs vs n (x ∷ es) e h k =
     let z : n + suc (length es) ≡ n + 1 + length es = omega arith in
@@ -216,7 +223,7 @@ module _ (text : Bytes) (graph : Graph) (g : Grown text graph) where
         count = omega (arith, k1);
       }
 
-  plus-edge : (e : Edge) → ((t : Bool) → EdgeSound text (graph .signals) (graph .constants) (graph .vertices) t (arcOf text (recordsOf graph) t e) e) → length (graph .edges) < 128 → OneMore text (recordsOf graph) (plusEdge graph e)
+  plus-edge : (e : Edge) → EdgeHere text (graph .signals) (graph .constants) (graph .vertices) (recordsOf graph) e → length (graph .edges) < 128 → OneMore text (recordsOf graph) (plusEdge graph e)
   plus-edge e h few =
       record {
         grown = record {
@@ -296,18 +303,21 @@ module _ (text : Bytes) (graph : Graph) (g : Grown text graph) where
         let l = lower-fine (judgedFormula (namesOf graph) a) (judgedFormula (namesOf graph) c) (u .0) in
         subst (OneMore text (recordsOf graph)) (u .1)
         (plus-edge (edgeOf graph (lookUp f (graph .vertices) .place) (lookUp t (graph .vertices) .place) m a c)
-        (λ b.
-        record {
-          from-known = known-place f (graph .vertices) (hf .0);
-          to-known = known-place t (graph .vertices) (ht .0);
-          from-is = refl;
-          to-is = refl;
-          terminal-is = refl;
-          mark-at = p .2;
-          antecedent-at = p .0;
-          consequent-at = p .1;
-          antecedent-sound = formula-sound (graph .signals) (graph .constants) a (l .0);
-          consequent-sound = formula-sound (graph .signals) (graph .constants) c (l .1);
+        (record {
+          holds = λ b.
+              record {
+                from-known = known-place f (graph .vertices) (hf .0);
+                to-known = known-place t (graph .vertices) (ht .0);
+                from-is = refl;
+                to-is = refl;
+                terminal-is = refl;
+                mark-at = p .2;
+                antecedent-at = p .0;
+                consequent-at = p .1;
+                antecedent-sound = formula-sound (graph .signals) (graph .constants) a (l .0);
+                consequent-sound = formula-sound (graph .signals) (graph .constants) c (l .1);
+              };
+          inside = p .3;
         })
         (leb-false 128 _ (few .0)))
 
@@ -350,30 +360,34 @@ finished-some graph {last} h = go (eqb (length (graph .vertices)) 0) refl h
         some zero f = absurd (f refl)
         some (suc n) f = omega arith
 
-abbrev Ends : Bytes → Graph → Type 0
-Ends text last = Grown text last × (1 ≤ length (last .vertices))
+-- the graph of all lines, and nothing after the last
+record Ends (text : Bytes) (last : Graph) : Type 0 where
+  grown : Grown text last
+  some-vertex : 1 ≤ length (last .vertices)
+  inside : lineStart text (recordsOf last) ≤ length text
+  over : split 10 (drop (lineStart text (recordsOf last)) text) ≡ [] ∷ []
 
-done-sound : (text : Bytes) (graph : Graph) {last : Graph} → Grown text graph → finished graph ≡ accepted last → Ends text last
-done-sound text graph g h = let f = finished-some graph h in subst (Ends text) (f .0) (g, f .1)
+done-sound : (text : Bytes) (graph : Graph) {last : Graph} → Grown text graph → lineStart text (recordsOf graph) ≤ length text → split 10 (drop (lineStart text (recordsOf graph)) text) ≡ [] ∷ [] → finished graph ≡ accepted last → Ends text last
+done-sound text graph g i e h = let f = finished-some graph h in subst (Ends text) (f .0) (record { grown = g; some-vertex = f .1; inside = i; over = e })
 
-next-line : (text : Bytes) (k : ℕ) (line next : Bytes) (more : List Bytes) → split 10 (drop (lineStart text k) text) ≡ line ∷ next ∷ more → (lineOf text k ≡ line) × (split 10 (drop (lineStart text (suc k)) text) ≡ next ∷ more)
+next-line : (text : Bytes) (k : ℕ) (line next : Bytes) (more : List Bytes) → split 10 (drop (lineStart text k) text) ≡ line ∷ next ∷ more → (lineOf text k ≡ line) × (lineStart text (suc k) ≤ length text) × (split 10 (drop (lineStart text (suc k)) text) ≡ next ∷ more)
 unfolding lineOf lineStart
-next-line text k line next more e = let t = two-left 10 text (lineStart text k) line next more e in (t .0, t .2)
+next-line text k line next more e = let t = two-left 10 text (lineStart text k) line next more e in (t .0, omega (arith, t .1), t .2)
 
-line-sound : (text : Bytes) (graph : Graph) (n : ℕ) (line next : Bytes) (more : List Bytes) {last : Graph} → Grown text graph → split 10 (drop (lineStart text (recordsOf graph)) text) ≡ line ∷ next ∷ more → ((more2 : Graph) → Grown text more2 → split 10 (drop (lineStart text (recordsOf more2)) text) ≡ next ∷ more → readLines more2 (n + 1) (next ∷ more) ≡ accepted last → Ends text last) → (s : Step) → add graph (recordOf line) ≡ s → elim s [ fault f ↦ refused (FaultyLine f n) | went more2 ↦ readLines more2 (n + 1) (next ∷ more) ] ≡ accepted last → Ends text last
+line-sound : (text : Bytes) (graph : Graph) (n : ℕ) (line next : Bytes) (more : List Bytes) {last : Graph} → Grown text graph → split 10 (drop (lineStart text (recordsOf graph)) text) ≡ line ∷ next ∷ more → ((more2 : Graph) → Grown text more2 → lineStart text (recordsOf more2) ≤ length text → split 10 (drop (lineStart text (recordsOf more2)) text) ≡ next ∷ more → readLines more2 (n + 1) (next ∷ more) ≡ accepted last → Ends text last) → (s : Step) → add graph (recordOf line) ≡ s → elim s [ fault f ↦ refused (FaultyLine f n) | went more2 ↦ readLines more2 (n + 1) (next ∷ more) ] ≡ accepted last → Ends text last
 line-sound text graph n line next more g e ih (fault f) a h = let z : _≡_ {A = ℕ} 0 1 = cc in absurd (omega arith)
 line-sound text graph n line next more g e ih (went more2) a h =
     let t = next-line text (recordsOf graph) line next more e in
     let s = line-step text graph g (ap (λ (b : Bytes). add graph (recordOf b)) (t .0) ∙ a) in
-    ih more2 (s .grown) (rw (s .count, add-one (recordsOf graph)) (t .1)) h
+    ih more2 (s .grown) (rw (s .count, add-one (recordsOf graph)) (t .1)) (rw (s .count, add-one (recordsOf graph)) (t .2)) h
 
-lines-sound : (text : Bytes) (graph : Graph) (n : ℕ) (ls : List Bytes) {last : Graph} → Grown text graph → split 10 (drop (lineStart text (recordsOf graph)) text) ≡ ls → readLines graph n ls ≡ accepted last → Ends text last
+lines-sound : (text : Bytes) (graph : Graph) (n : ℕ) (ls : List Bytes) {last : Graph} → Grown text graph → lineStart text (recordsOf graph) ≤ length text → split 10 (drop (lineStart text (recordsOf graph)) text) ≡ ls → readLines graph n ls ≡ accepted last → Ends text last
 unfolding readLines
-lines-sound text graph n [] g e h = done-sound text graph g h
-lines-sound text graph n ([] ∷ []) g e h = done-sound text graph g h
-lines-sound text graph n ((b ∷ bs) ∷ []) g e h = let z : _≡_ {A = ℕ} 0 1 = cc in absurd (omega arith)
-lines-sound text graph n (line ∷ next ∷ more) g e h =
-    line-sound text graph n line next more g e (λ more2 g2 e2 h2. lines-sound text more2 (n + 1) (next ∷ more) g2 e2 h2) (add graph (recordOf line)) refl h
+lines-sound text graph n [] g i e h = absurd (split-some 10 (drop (lineStart text (recordsOf graph)) text) e)
+lines-sound text graph n ([] ∷ []) g i e h = done-sound text graph g i e h
+lines-sound text graph n ((b ∷ bs) ∷ []) g i e h = let z : _≡_ {A = ℕ} 0 1 = cc in absurd (omega arith)
+lines-sound text graph n (line ∷ next ∷ more) g i e h =
+    line-sound text graph n line next more g e (λ more2 g2 i2 e2 h2. lines-sound text more2 (n + 1) (next ∷ more) g2 i2 e2 h2) (add graph (recordOf line)) refl h
 
 text-sound : (text : Bytes) {graph : Graph} → graphOf text ≡ accepted graph → Ends text graph
 unfolding graphOf lineStart modeLines
@@ -381,7 +395,7 @@ text-sound text {graph} h = go (ltb 32768 (length text)) h
   where
     go : (t : Bool) → pick t (refused TextTooLong) (readLines nothing 1 (split 10 text)) ≡ accepted graph → Ends text graph
     go true k = let z : _≡_ {A = ℕ} 0 1 = cc in absurd (omega arith)
-    go false k = lines-sound text nothing 1 (split 10 text) (nothing-grown text) refl k
+    go false k = lines-sound text nothing 1 (split 10 text) (nothing-grown text) (omega arith) refl k
 
 -- ---- by the indices of the arrays
 any-default : {A : Type 0} (l : List A) (i : ℕ) (d d2 : A) → i < length l → getD l i d ≡ getD l i d2
@@ -400,21 +414,33 @@ held-at text m n c i d {ns} h l =
 edges-at : (t : Edge → Bool) (text : Bytes) (ss cs vs : List Bytes) (n : ℕ) (es : List Edge) (i : ℕ) (d : Edge) → EdgesSound text ss cs vs n es → i < length es → EdgeSound text ss cs vs (t (getD es i d)) (getD (arcsOf t text n es) i noArc) (getD es i d)
 unfolding arcsOf
 edges-at t text ss cs vs n [] i d h l = absurd (omega arith)
-edges-at t text ss cs vs n (e ∷ es) zero d h l = h .0 (t e)
+edges-at t text ss cs vs n (e ∷ es) zero d h l = h .0 .holds (t e)
 edges-at t text ss cs vs n (e ∷ es) (suc i) d h l = edges-at t text ss cs vs (n + 1) es i d (h .1) (omega arith)
+
+-- where an edge's antecedent stands, in its own line
+left-at : (t : Edge → Bool) (text : Bytes) (n : ℕ) (es : List Edge) (i : ℕ) → i < length es → getD (arcsOf t text n es) i noArc .left ≡ lineStart text (n + i) + fieldStart (lineOf text (n + i)) 4
+unfolding arcsOf arcOf fieldAt
+left-at t text n [] i l = absurd (omega arith)
+left-at t text n (e ∷ es) zero l = rw (add-zero n)
+left-at t text n (e ∷ es) (suc i) l = let z : n + 1 + i ≡ n + suc i = omega arith in rw (← z) (left-at t text (n + 1) es i (omega arith))
+
+edges-inside : (text : Bytes) (ss cs vs : List Bytes) (n : ℕ) (es : List Edge) (i : ℕ) → EdgesSound text ss cs vs n es → i < length es → fieldStart (lineOf text (n + i)) 4 ≤ length (lineOf text (n + i))
+edges-inside text ss cs vs n [] i h l = absurd (omega arith)
+edges-inside text ss cs vs n (e ∷ es) zero h l = rw (add-zero n) (h .0 .inside)
+edges-inside text ss cs vs n (e ∷ es) (suc i) h l = let z : n + 1 + i ≡ n + suc i = omega arith in rw (← z) (edges-inside text ss cs vs (n + 1) es i (h .1) (omega arith))
 
 -- THE LAW: the graph of an accepted text is sound
 pub sound : (text : Bytes) {graph : Graph} → graphOf text ≡ accepted graph → Sound text graph
 unfolding heldOf heldAs filled
 sound text {graph} h =
     let w = text-sound text h in
-    let g = w .0 in
+    let g = w .grown in
     let first = modeLines (graph .mode) in
     let arcs = arcsOf (isTerminal graph) text (first + namedOf graph + length (graph .vertices)) (graph .edges) in
     record {
       signals-few = g .signals-few;
       constants-few = g .constants-few;
-      some-vertex = w .1;
+      some-vertex = w .some-vertex;
       vertices-few = g .vertices-few;
       edges-few = g .edges-few;
       names-long = filled-length 69 0 (namePlaces text first (namedOf graph)) (omega (arith, places-length text first (namedOf graph), g .signals-few, g .constants-few));
@@ -428,6 +454,12 @@ sound text {graph} h =
           let p : i < length arcs = rw (arcs-length (isTerminal graph) text (first + namedOf graph + length (graph .vertices)) (graph .edges)) l in
           rw (List·getD-append arcs (replicate (128 - length arcs) noArc) noArc i p)
           (edges-at (isTerminal graph) text (graph .signals) (graph .constants) (graph .vertices) (first + namedOf graph + length (graph .vertices)) (graph .edges) i d (g .edges) l);
+      own-line = λ i l.
+          let n = first + namedOf graph + length (graph .vertices) in
+          let p : i < length arcs = rw (arcs-length (isTerminal graph) text n (graph .edges)) l in
+          let z : recordsOf graph - (n + i) ≡ length (graph .edges) - i = omega arith in
+          rw (List·getD-append arcs (replicate (128 - length arcs) noArc) noArc i p, left-at (isTerminal graph) text n (graph .edges) i l)
+          (breaks-from text (recordsOf graph) (w .inside) (w .over) (n + i) _ (omega arith) (edges-inside text (graph .signals) (graph .constants) (graph .vertices) n (graph .edges) i (g .edges) l) ∙ z);
     }
 
 -- a formula's bytes stand within the text

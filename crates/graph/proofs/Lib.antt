@@ -1,6 +1,7 @@
 -- The laws that belong to no one function. Crates above cite HeldLaws and AnswerLaws.
 pub mod PieceLaws
 pub mod SplitLaws
+pub mod BreakLaws
 pub mod NameLaws
 pub mod RecordLaws
 pub mod WordLaws

@@ -17,7 +17,8 @@ use Rattle.assertion.specs.declared.Mode.the-variants.{Unsaid}
 use Rattle.graph.specs.Pieces.{onto, split, lookUp}
 use Rattle.graph.specs.Records.{Record, shapeless, mode, signal, constant, vertex, edge, ofFields, recordOf}
 use Rattle.graph.specs.Reading.{Step, fault, went, modeLines, addMode, addSignal, addConstant, addVertex, edgeOf, unlessFaulty, judgeEdge, addEdge, add, namesOf, judgedFormula, lower, refused, accepted, finished, readLines, nothing, faultNumber, refusalOf, graphOf}
-use Rattle.graph.specs.ModeClaims.{ModeWord, StartsLine, ModeLine, FirstLine, breaks, RefusedAfter}
+use Rattle.graph.specs.Claims.{breaks}
+use Rattle.graph.specs.ModeClaims.{ModeWord, StartsLine, ModeLine, FirstLine, RefusedAfter}
 use Rattle.graph.specs.ModeClaims.ModeWord.{terminal, strong}
 use Rattle.graph.specs.ModeClaims.StartsLine.{first, next}
 use Rattle.graph.specs.ModeClaims.FirstLine.{says, silent}
@@ -287,7 +288,7 @@ first-line text {last} e = by (split 10 text) refl (accepted-lines text e)
     by (l ∷ x ∷ ls) k h = step l x ls k (add nothing (recordOf l)) refl h
 
 -- ---- a line after others
-refused-outcome : (text : Bytes) {cause : Cause} → graphOf text ≡ refused cause → {r : GraphRead} → r ≡ readOf text → r .outcome ≡ Refused cause
+pub refused-outcome : (text : Bytes) {cause : Cause} → graphOf text ≡ refused cause → {r : GraphRead} → r ≡ readOf text → r .outcome ≡ Refused cause
 unfolding readOf answerOf
 refused-outcome text h e = rw (e, h)
 

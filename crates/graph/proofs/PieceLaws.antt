@@ -150,7 +150,7 @@ pub part-in : (text line : Bytes) (at p n : ℕ) → line ≡ take (length line)
 part-in text line at p n h l =
     sym (take-take n (length line - p) (drop (at + p) text) l) ∙ ap (take n) (drop-in text line at p h)
 
-upTo-drop : (b : ℕ) (s : Bytes) (p : ℕ) → p ≤ upTo b s → upTo b (drop p s) ≡ upTo b s - p
+pub upTo-drop : (b : ℕ) (s : Bytes) (p : ℕ) → p ≤ upTo b s → upTo b (drop p s) ≡ upTo b s - p
 unfolding upTo
 upTo-drop b s zero h = omega arith
 upTo-drop b [] (suc p) h = absurd (omega arith)

@@ -10,7 +10,7 @@ use lib.Dec.{eqb}
 use lib.ListN.{length, length-append}
 use Rattle.assertion.specs.Graph.{Bytes}
 use Rattle.graph.specs.Pieces.{onto, split, same}
-use Rattle.graph.specs.ModeClaims.{breaks}
+use Rattle.graph.specs.Claims.{breaks}
 use Rattle.graph.proofs.PieceLaws.{split-some}
 
 onto-joined : (c : ℕ) (ps qs : List Bytes) → (ps ≡ [] → ⊥) → onto c (ps ++ qs) ≡ onto c ps ++ qs

@@ -5,7 +5,8 @@ use Prim.Native.Nat.{ℕ, _+_, _-_, _≤_, _<_}
 use Prim.Native.Char.{code}
 use mathlib.Core.Path.{_≡_}
 use mathlib.Core.Bool.{Bool, true, cond}
-use mathlib.Core.List.{List, _++_, map}
+use mathlib.Core.List.{List, [], _∷_, _++_, map}
+use lib.Dec.{eqb}
 use lib.ListN.{length, getD, take, drop}
 use Rattle.formula.specs.Grammar.{Tree, tree, treeOf, depthOf}
 use Rattle.assertion.specs.Graph.{Bytes, Expr, Edge, Graph, isTerminal}
@@ -26,6 +27,11 @@ pub record FormulaSound (ss cs : List Bytes) (s : Bytes) (x : Expr) : Type 0 whe
   pub shallow : depthOf parse ≤ 16
   pub names-known : known (ss ++ cs) s parse ≡ true
   pub means : x ≡ resolved (length ss) (ss ++ cs) s parse
+
+-- how many LF there are
+abbrev pub breaks : Bytes → ℕ
+breaks [] = 0
+breaks (b ∷ s) = cond (eqb b (code "\n")) 1 0 + breaks s
 
 -- an edge's mark stands between two tabs, before its antecedent at p
 pub record MarkAt (text : Bytes) (p : ℕ) (marked : Bool) : Type 0 where
@@ -62,6 +68,8 @@ pub record Sound (text : Bytes) (graph : Graph) : Type 0 where
   pub name-at : (i : ℕ) (d : Bytes) → i < length (graph .signals) + length (graph .constants) → pieceAt 10 text (getD (heldOf text graph .names) i 0) ≡ getD (namesOf graph) i d
   pub point-at : (i : ℕ) (d : Bytes) → i < length (graph .vertices) → pieceAt 10 text (getD (heldOf text graph .points) i 0) ≡ getD (graph .vertices) i d
   pub edge-at : (i : ℕ) (d : Edge) → i < length (graph .edges) → EdgeSound text (graph .signals) (graph .constants) (graph .vertices) (isTerminal graph (getD (graph .edges) i d)) (getD (heldOf text graph .arcs) i noArc) (getD (graph .edges) i d)
+  -- the edges are the last lines, in order
+  pub own-line : (i : ℕ) → i < length (graph .edges) → breaks (drop (getD (heldOf text graph .arcs) i noArc .left) text) ≡ length (graph .edges) - i
 
 -- THE CLAIM
 abbrev pub GraphMeans : Bytes → Type 0

@@ -4,15 +4,15 @@ use Prim.Native.Nat.{ℕ, _+_, _-_, _≤_, _<_}
 use Prim.Native.Char.{code}
 use mathlib.Core.Path.{_≡_}
 use mathlib.Core.Logic.{_⊎_}
-use mathlib.Core.Bool.{true, cond}
+use mathlib.Core.Bool.{true}
 use mathlib.Core.List.{[], _∷_, _++_}
-use lib.Dec.{eqb}
-use lib.ListN.{length, getD}
+use lib.ListN.{length, getD, drop}
 use Rattle.assertion.specs.Graph.{Bytes, Graph}
 use Rattle.assertion.specs.declared.Mode.{Mode}
 use Rattle.assertion.specs.declared.Mode.the-variants.{Unsaid, Terminal, Strong}
 use Rattle.graph.specs.Reading.{Outcome, refused, accepted, refusalOf, graphOf}
 use Rattle.graph.specs.Held.{noArc}
+use Rattle.graph.specs.Claims.{breaks}
 use Rattle.graph.specs.declared.Fault.{Fault}
 use Rattle.graph.specs.declared.Cause.{Cause}
 use Rattle.graph.specs.declared.Cause.the-variants.{FaultyLine, NoVertex}
@@ -42,11 +42,6 @@ pub data FirstLine (text : Bytes) : Mode → Type 0 where
   says : (word after : Bytes) (m : Mode) → ModeWord word m → ModeLine text [] word after → FirstLine text m
   silent : ((word after : Bytes) → ModeLine text [] word after → ⊥) → FirstLine text Unsaid
 
--- how many LF there are
-abbrev pub breaks : Bytes → ℕ
-breaks [] = 0
-breaks (b ∷ s) = cond (eqb b (code "\n")) 1 0 + breaks s
-
 -- the answer refuses the line after these bytes with this number, unless they are refused for a line of their own
 pub data RefusedAfter (before : Bytes) (number : ℕ) (r : GraphRead) : Type 0 where
   here : (cause : Cause) → r .outcome ≡ Refused cause → refusalOf cause ≡ record { number = number; line = breaks before + 1 } → RefusedAfter before number r
@@ -69,16 +64,28 @@ pub data Chosen (text : Bytes) (g : CheckedGraph) (i : ℕ) : Type 0 where
   mark-t : markAt text g i ≡ code "t" → Chosen text g i
   no-mark : g .mode ≡ Unsaid → ((j : ℕ) → j < g .edges → markAt text g j ≡ code "-") → Chosen text g i
 
--- the mark is `t` or `-`, between two tabs; and the edge is terminal where there is a reason
+-- the mark is `t` or `-`, between two tabs, on the edge's own line, as the edges are the last lines; and the edge is
+-- terminal where there is a reason
 pub record EdgeChosen (text : Bytes) (g : CheckedGraph) (i : ℕ) : Type 0 where
+  pub own-line : breaks (drop (getD (g .arcs) i noArc .left) text) ≡ g .edges - i
   pub tab-before : getD text (getD (g .arcs) i noArc .left - 3) 0 ≡ code "\t"
   pub mark : (markAt text g i ≡ code "t") ⊎ (markAt text g i ≡ code "-")
   pub tab-after : getD text (getD (g .arcs) i noArc .left - 1) 0 ≡ code "\t"
   pub reason : getD (g .arcs) i noArc .terminal ≡ true → Chosen text g i
   pub chosen : Chosen text g i → getD (g .arcs) i noArc .terminal ≡ true
 
+-- what is answered of a graph
+pub record Answered (g : Graph) (r : GraphRead) : Type 0 where
+  pub checked : r .outcome ≡ Checked
+  pub mode : r .graph .mode ≡ g .mode
+  pub edges : r .graph .edges ≡ length (g .edges)
+
 -- THE CLAIM of the answer r to a text
 pub record ModeMeans (text : Bytes) (r : GraphRead) : Type 0 where
+  pub accepts : (g : Graph) → graphOf text ≡ accepted g → Answered g r
+  pub refuses : (cause : Cause) → graphOf text ≡ refused cause → r .outcome ≡ Refused cause
+  -- the bytes of an `M` line count
+  pub too-long : 32768 < length text → (cause : Cause) × (r .outcome ≡ Refused cause) × (refusalOf cause ≡ record { number = 1; line = 0 })
   pub first-line : r .outcome ≡ Checked → FirstLine text (r .graph .mode)
   pub terminal : r .outcome ≡ Checked → (i : ℕ) → i < r .graph .edges → EdgeChosen text (r .graph) i
   -- "Another `M` line is 3; another word is 2"

@@ -44,6 +44,9 @@ module _ (text : Bytes) (lines : ℕ) (inside : lineStart text lines ≤ length 
       let s = started k (suc n) (omega arith) in
       breaks-line text (lineStart text n) (omega (arith, s)) ∙ ap suc (left-over k (suc n) (omega arith))
 
+  pub line-inside : (n : ℕ) → n ≤ lines → lineStart text n ≤ length text
+  line-inside n h = started (lines - n) n (omega arith)
+
   -- THE LAW
   pub breaks-from : (n p : ℕ) → n < lines → p ≤ length (lineOf text n) → breaks (drop (lineStart text n + p) text) ≡ lines - n
   breaks-from n p h l =

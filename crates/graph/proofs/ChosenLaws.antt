@@ -13,8 +13,8 @@ use Rattle.assertion.specs.Paths.TerminalEdge.{by-mode, by-mark, unmarked}
 use Rattle.assertion.proofs.TerminalLaws.{reason, for-reason}
 use Rattle.graph.specs.Reading.{accepted, refusalOf, graphOf}
 use Rattle.graph.specs.Held.{noArc, heldAs, heldOf, answerOf, readOf}
-use Rattle.graph.specs.Claims.{breaks, MarkAt, GraphMeans}
-use Rattle.graph.specs.ModeClaims.{Chosen, EdgeChosen, Answered, ModeMeans}
+use Rattle.graph.specs.Claims.{breaks, EdgeLine, GraphMeans}
+use Rattle.graph.specs.ModeClaims.{markAt, Chosen, EdgeChosen, Answered, ModeMeans}
 use Rattle.graph.specs.ModeClaims.Chosen.{mode-strong, mark-t, no-mark}
 use Rattle.graph.specs.declared.Cause.{Cause}
 use Rattle.graph.specs.declared.Cause.the-variants.{TextTooLong}
@@ -69,8 +69,11 @@ module _ {text : Bytes} {g : CheckedGraph} (t : CheckedText text g) where
   inside : {i : ℕ} → i < g .edges → i < length (graph .edges)
   inside h = omega (arith, t .edges-are)
 
-  at : (i : ℕ) → i < g .edges → MarkAt text (getD (g .arcs) i noArc .left) (edge i .marked)
-  at i h = subst (λ (x : CheckedGraph). MarkAt text (getD (x .arcs) i noArc .left) (edge i .marked)) (sym (t .arrays)) (t .graph-sound .edge-at i noEdge (inside h) .mark-at)
+  mark-at : (i : ℕ) → i < g .edges → markAt text g i ≡ cond (edge i .marked) 116 45
+  mark-at i h = subst (λ (x : CheckedGraph). markAt text x i ≡ cond (edge i .marked) 116 45) (sym (t .arrays)) (t .graph-sound .edge-at i noEdge (inside h) .mark-is)
+
+  behind : (i : ℕ) → i < g .edges → EdgeLine text (getD (g .arcs) i noArc .left)
+  behind i h = subst (λ (x : CheckedGraph). EdgeLine text (getD (x .arcs) i noArc .left)) (sym (t .arrays)) (t .graph-sound .edge-line i (inside h))
 
   is-terminal : (i : ℕ) → i < g .edges → getD (g .arcs) i noArc .terminal ≡ isTerminal graph (edge i)
   is-terminal i h = subst (λ (x : CheckedGraph). getD (x .arcs) i noArc .terminal ≡ isTerminal graph (edge i)) (sym (t .arrays)) (t .graph-sound .edge-at i noEdge (inside h) .terminal-is)
@@ -86,31 +89,30 @@ module _ {text : Bytes} {g : CheckedGraph} (t : CheckedText text g) where
 
   there : (i : ℕ) → i < g .edges → TerminalEdge graph (edge i) → Chosen text g i
   there i h (by-mode k) = mode-strong (mode-is ∙ k)
-  there i h (by-mark k) = mark-t (t-marked (edge i .marked) (at i h .mark) k)
-  there i h (unmarked k n) = no-mark (mode-is ∙ k) (λ j l. dash-marked (edge j .marked) (at j l .mark) (n (edge j) (member (graph .edges) noEdge j (inside l))))
+  there i h (by-mark k) = mark-t (t-marked (edge i .marked) (mark-at i h) k)
+  there i h (unmarked k n) = no-mark (mode-is ∙ k) (λ j l. dash-marked (edge j .marked) (mark-at j l) (n (edge j) (member (graph .edges) noEdge j (inside l))))
 
   back : (i : ℕ) → i < g .edges → Chosen text g i → TerminalEdge graph (edge i)
   back i h (mode-strong k) = by-mode (sym mode-is ∙ k)
-  back i h (mark-t k) = by-mark (marked-t (edge i .marked) (at i h .mark) k)
+  back i h (mark-t k) = by-mark (marked-t (edge i .marked) (mark-at i h) k)
   back i h (no-mark k n) =
       unmarked (sym mode-is ∙ k)
-      (all-at (graph .edges) noEdge (λ j l. let m : j < g .edges = omega (arith, t .edges-are) in marked-dash (edge j .marked) (at j m .mark) (n j m)))
+      (all-at (graph .edges) noEdge (λ j l. let m : j < g .edges = omega (arith, t .edges-are) in marked-dash (edge j .marked) (mark-at j m) (n j m)))
 
   edge-chosen : (i : ℕ) → i < g .edges → EdgeChosen text g i
   edge-chosen i h =
       record {
+        behind = behind i h;
         own-line = own-line i h;
-        tab-before = at i h .tab-before;
-        mark = mark-or (edge i .marked) (at i h .mark);
-        tab-after = at i h .tab-after;
+        mark = mark-or (edge i .marked) (mark-at i h);
         reason = λ k. there i h (reason graph (edge i) (sym (is-terminal i h) ∙ k));
         chosen = λ k. is-terminal i h ∙ for-reason graph (edge i) (back i h k);
       }
 
 -- ---- what is answered
-answered : (text : Bytes) {r : GraphRead} → r ≡ readOf text → (graph : Graph) → graphOf text ≡ accepted graph → Answered graph r
+answered : (text : Bytes) {r : GraphRead} → r ≡ readOf text → (graph : Graph) → graphOf text ≡ accepted graph → Answered text graph r
 unfolding readOf answerOf heldOf heldAs
-answered text e graph h = rw (e, h) (record { checked = refl; mode = refl; edges = refl })
+answered text e graph h = rw (e, h) (record { checked = refl; held = refl; mode = refl; signals = refl; constants = refl; vertices = refl; edges = refl })
 
 too-long : (text : Bytes) {r : GraphRead} → r ≡ readOf text → 32768 < length text → (cause : Cause) × (r .outcome ≡ Refused cause) × (refusalOf cause ≡ record { number = 1; line = 0 })
 unfolding graphOf refusalOf
@@ -124,7 +126,7 @@ mode-means text {r} e =
       refuses = λ cause h. refused-outcome text h e;
       too-long = too-long text e;
       first-line = λ h. let t = checked-text text e h in rw (mode-is t) (first-line text (t .accepts));
-      terminal = λ h i l. edge-chosen (checked-text text e h) i l;
+      edges-chosen = λ h i l. edge-chosen (checked-text text e h) i l;
       another = λ before word after m w q n short. mode-again w q n short e;
       other-word = λ before word after w q short. word-wrong w q short e;
       no-word = λ before after starts b short. word-missing after starts b short e;

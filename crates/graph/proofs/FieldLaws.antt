@@ -16,7 +16,7 @@ use Rattle.assertion.specs.Graph.{Bytes}
 use Rattle.assertion.specs.declared.Mode.the-variants.{Terminal, Strong}
 use Rattle.graph.specs.Pieces.{split, upTo, endAt, pieceAt, same}
 use Rattle.graph.specs.Records.{Record, shapeless, mode, signal, constant, vertex, edge, moded, named, marked, edged, ofFields, recordOf}
-use Rattle.graph.specs.Claims.{FormulaAt, MarkAt}
+use Rattle.graph.specs.Claims.{FormulaAt}
 use Rattle.graph.specs.Held.{lineStart, lineOf, fieldStart, fieldAt, fieldLength}
 use Rattle.graph.proofs.PieceLaws.{split-cut, split-last, split-some, piece-in, piece-last}
 use Rattle.graph.proofs.SplitLaws.{same-equal}
@@ -42,11 +42,11 @@ module _ (b : ℕ) (s : Bytes) (p : ℕ) where
   ]
 
 -- a field that is not the last
-field-left : (line : Bytes) (k : ℕ) (x y : Bytes) (ls : List Bytes) → split 9 (drop (fieldStart line k) line) ≡ x ∷ y ∷ ls → (pieceAt 9 line (fieldStart line k) ≡ x) × (fieldStart line (suc k) ≤ length line) × (split 9 (drop (fieldStart line (suc k)) line) ≡ y ∷ ls)
+pub field-left : (line : Bytes) (k : ℕ) (x y : Bytes) (ls : List Bytes) → split 9 (drop (fieldStart line k) line) ≡ x ∷ y ∷ ls → (pieceAt 9 line (fieldStart line k) ≡ x) × (fieldStart line (suc k) ≤ length line) × (split 9 (drop (fieldStart line (suc k)) line) ≡ y ∷ ls)
 unfolding fieldStart
 field-left line k x y ls e = let t = two-left 9 line (fieldStart line k) x y ls e in (t .0, omega (arith, t .1), t .2)
 
-field-zero : (line : Bytes) → drop (fieldStart line 0) line ≡ line
+pub field-zero : (line : Bytes) → drop (fieldStart line 0) line ≡ line
 unfolding fieldStart
 field-zero line = refl
 
@@ -60,7 +60,7 @@ up-to-byte b (c ∷ s) h = by (eqb c b) refl (up-to-byte b s) h
     by true e ih l = rw (upTo, e) (eqb-true c b e)
     by false e ih l = let u : upTo b (c ∷ s) ≡ suc (upTo b s) = rw (upTo, e) in rw u (ih (omega arith))
 
-end-byte : (b : ℕ) (s : Bytes) (p : ℕ) → endAt b s p < length s → getD s (endAt b s p) 0 ≡ b
+pub end-byte : (b : ℕ) (s : Bytes) (p : ℕ) → endAt b s p < length s → getD s (endAt b s p) 0 ≡ b
 unfolding endAt
 end-byte b s p h =
     let n : upTo b (drop p s) < length (drop p s) = omega (arith, length-drop p s) in
@@ -78,6 +78,15 @@ one-byte line p {b} e =
     let z : p + 0 ≡ p = add-zero p in
     sym (ap (λ (i : ℕ). getD line i 0) z) ∙ sym (getD-drop p line 0 0) ∙ sym (getD-take n (drop p line) 0 0 l) ∙ ap (λ (x : Bytes). getD x 0 0) e
 
+-- the fields of an edge's line
+pub record EdgeFields (line : Bytes) : Type 0 where
+  pub from : Bytes
+  pub to : Bytes
+  pub mark : ℕ
+  pub antecedent : Bytes
+  pub consequent : Bytes
+  pub are : split 9 line ≡ (69 ∷ []) ∷ from ∷ to ∷ (mark ∷ []) ∷ antecedent ∷ consequent ∷ []
+
 -- ---- a record whose fields stand in line k of a text
 abbrev pub Fits : Bytes → ℕ → Record → Type 0
 Fits text k shapeless = Unit {0}
@@ -86,7 +95,7 @@ Fits text k (signal n) = pieceAt 10 text (fieldAt text k 1) ≡ n
 Fits text k (constant n) = pieceAt 10 text (fieldAt text k 1) ≡ n
 Fits text k (vertex n) = pieceAt 10 text (fieldAt text k 1) ≡ n
 Fits text k (edge f t m a c) =
-    FormulaAt text (fieldAt text k 4) (fieldLength (lineOf text k) 4) a × FormulaAt text (fieldAt text k 5) (fieldLength (lineOf text k) 5) c × MarkAt text (fieldAt text k 4) m × (fieldStart (lineOf text k) 4 ≤ length (lineOf text k))
+    FormulaAt text (fieldAt text k 4) (fieldLength (lineOf text k) 4) a × FormulaAt text (fieldAt text k 5) (fieldLength (lineOf text k) 5) c × (getD text (fieldAt text k 4 - 2) 0 ≡ cond m 116 45) × EdgeFields (lineOf text k)
 
 module _ (text : Bytes) (k : ℕ) where
   pick-fits : (t : Bool) (x y : Record) → Fits text k x → Fits text k y → Fits text k (pick t x y)
@@ -104,13 +113,13 @@ module _ (text : Bytes) (k : ℕ) where
   pick-fits-so true x y h g = h refl
   pick-fits-so false x y h g = g
 
-  edged-fits : (kind f t m a c : Bytes) → ((b : Bool) → same m (cond b 116 45 ∷ []) ≡ true → Fits text k (edge f t b a c)) → Fits text k (edged kind f t m a c)
+  edged-fits : (kind f t m a c : Bytes) → (same kind (69 ∷ []) ≡ true → (b : Bool) → same m (cond b 116 45 ∷ []) ≡ true → Fits text k (edge f t b a c)) → Fits text k (edged kind f t m a c)
   unfolding edged marked
   edged-fits kind f t m a c h =
-      pick-fits (same kind (69 ∷ [])) _ shapeless
-      (pick-fits (isName f) _ shapeless
+      pick-fits-so (same kind (69 ∷ [])) _ shapeless
+      (λ s. pick-fits (isName f) _ shapeless
       (pick-fits (isName t) _ shapeless
-      (pick-fits-so (same m (116 ∷ [])) (edge f t true a c) _ (h true) (pick-fits-so (same m (45 ∷ [])) (edge f t false a c) shapeless (h false) tt)) tt) tt) tt
+      (pick-fits-so (same m (116 ∷ [])) (edge f t true a c) _ (h s true) (pick-fits-so (same m (45 ∷ [])) (edge f t false a c) shapeless (h s false) tt)) tt) tt) tt
 
   abbrev line : Bytes
   line = lineOf text k
@@ -138,37 +147,30 @@ module _ (text : Bytes) (k : ℕ) where
       let l : i < n = omega (arith, length-take n (drop (lineStart text k) text)) in
       sym (getD-drop (lineStart text k) text i 0) ∙ sym (getD-take n (drop (lineStart text k) text) i 0 l)
 
-  -- a mark, after field 2 and before field 4
-  mark-fits : (m : Bytes) (b : ℕ) → endAt 9 line (fieldStart line 2) < length line → pieceAt 9 line (fieldStart line 3) ≡ m → endAt 9 line (fieldStart line 3) < length line → m ≡ b ∷ [] →
-      (getD text (fieldAt text k 4 - 3) 0 ≡ 9) × (getD text (fieldAt text k 4 - 2) 0 ≡ b) × (getD text (fieldAt text k 4 - 1) 0 ≡ 9)
+  -- a mark, before field 4
+  mark-fits : (b : ℕ) → pieceAt 9 line (fieldStart line 3) ≡ b ∷ [] → endAt 9 line (fieldStart line 3) < length line → getD text (fieldAt text k 4 - 2) 0 ≡ b
   unfolding fieldAt fieldStart
-  mark-fits m b l2 p l3 e =
-      let s2 = fieldStart line 2 in
-      let s3 = endAt 9 line s2 + 1 in
-      let one : endAt 9 line s3 ≡ s3 + 1 = one-long line s3 (p ∙ e) in
-      let z3 : lineStart text k + (endAt 9 line s3 + 1) - 3 ≡ lineStart text k + endAt 9 line s2 = omega (arith, one) in
-      let z2 : lineStart text k + (endAt 9 line s3 + 1) - 2 ≡ lineStart text k + s3 = omega (arith, one) in
-      let z1 : lineStart text k + (endAt 9 line s3 + 1) - 1 ≡ lineStart text k + endAt 9 line s3 = omega (arith, one) in (
-        rw z3 (byte-fits (endAt 9 line s2) l2 ∙ end-byte 9 line s2 l2),
-        rw z2 (byte-fits s3 (omega (arith, one)) ∙ one-byte line s3 (p ∙ e)),
-        rw z1 (byte-fits (endAt 9 line s3) l3 ∙ end-byte 9 line s3 l3),
-      )
+  mark-fits b p l =
+      let s3 = endAt 9 line (fieldStart line 2) + 1 in
+      let one : endAt 9 line s3 ≡ s3 + 1 = one-long line s3 p in
+      let z : lineStart text k + (endAt 9 line s3 + 1) - 2 ≡ lineStart text k + s3 = omega (arith, one) in
+      rw z (byte-fits s3 (omega (arith, one)) ∙ one-byte line s3 p)
 
-  edge-fits : (kind f t m a c : Bytes) → split 9 line ≡ kind ∷ f ∷ t ∷ m ∷ a ∷ c ∷ [] → (b : Bool) → same m (cond b 116 45 ∷ []) ≡ true → Fits text k (edge f t b a c)
-  edge-fits kind f t m a c e b q =
+  edge-fits : (kind f t m a c : Bytes) → split 9 line ≡ kind ∷ f ∷ t ∷ m ∷ a ∷ c ∷ [] → same kind (69 ∷ []) ≡ true → (b : Bool) → same m (cond b 116 45 ∷ []) ≡ true → Fits text k (edge f t b a c)
+  edge-fits kind f t m a c e s b q =
       let t0 = field-left line 0 kind f (t ∷ m ∷ a ∷ c ∷ []) (rw (field-zero line) e) in
       let t1 = field-left line 1 f t _ (t0 .2) in
       let t2 = field-left line 2 t m _ (t1 .2) in
       let t3 = field-left line 3 m a _ (t2 .2) in
       let t4 = field-left line 4 a c _ (t3 .2) in
       let o = one-left 9 line (fieldStart line 5) c (t4 .2) in
-      let d2 = two-left 9 line (fieldStart line 2) t m _ (t1 .2) in
-      let d3 = two-left 9 line (fieldStart line 3) m a _ (t2 .2) in
-      let w = mark-fits m (cond b 116 45) (d2 .1) (d3 .0) (d3 .1) (same-equal m (cond b 116 45 ∷ []) q) in (
+      let d = two-left 9 line (fieldStart line 3) m a _ (t2 .2) in
+      let km = same-equal m (cond b 116 45 ∷ []) q in
+      let kk = same-equal kind (69 ∷ []) s in (
         formula-fits 4 a (t4 .0),
         formula-fits 5 c (piece-last 9 line (fieldStart line 5) _ refl (o .1) ∙ o .0),
-        record { tab-before = w .0; mark = w .1; tab-after = w .2 },
-        t3 .1,
+        mark-fits (cond b 116 45) (d .0 ∙ km) (d .1),
+        record { from = f; to = t; mark = cond b 116 45; antecedent = a; consequent = c; are = rw (← km, ← kk) e },
       )
 
   fields-fit : (fs : List Bytes) → split 9 line ≡ fs → Fits text k (ofFields fs)

@@ -54,16 +54,17 @@ use Rattle.graph.specs.declared.Judged.the-variants.{Fine, Faulty}
 use Rattle.graph.specs.declared.Arc.{Arc}
 use Rattle.graph.specs.Claims.{FormulaAt, FormulaSound, EdgeSound, Sound}
 use Rattle.graph.proofs.PieceLaws.{split-some}
-use Rattle.graph.proofs.BreakLaws.{breaks-from}
+use Rattle.graph.proofs.BreakLaws.{line-inside, breaks-from}
+use Rattle.graph.proofs.EdgeLineLaws.{fits-line, edge-behind}
 use Rattle.graph.proofs.ModeLineLaws.{mode-said}
-use Rattle.graph.proofs.FieldLaws.{Fits, line-fits, two-left}
+use Rattle.graph.proofs.FieldLaws.{EdgeFields, Fits, line-fits, two-left}
 use Rattle.graph.proofs.ArrayLaws.{filled-length, places-length, places-more, places-first, none-list, one-more, arcs-length}
 
 -- ---- what is claimed
 -- an edge of line n, terminal or not
 pub record EdgeHere (text : Bytes) (ss cs vs : List Bytes) (n : ℕ) (e : Edge) : Type 0 where
   pub holds : (t : Bool) → EdgeSound text ss cs vs t (arcOf text n t e) e
-  pub inside : fieldStart (lineOf text n) 4 ≤ length (lineOf text n)
+  pub fields : EdgeFields (lineOf text n)
 
 -- edges whose first is line n
 abbrev pub EdgesSound : Bytes → List Bytes → List Bytes → List Bytes → ℕ → List Edge → Type 0
@@ -311,13 +312,13 @@ module _ (text : Bytes) (graph : Graph) (g : Grown text graph) where
                 from-is = refl;
                 to-is = refl;
                 terminal-is = refl;
-                mark-at = p .2;
+                mark-is = p .2;
                 antecedent-at = p .0;
                 consequent-at = p .1;
                 antecedent-sound = formula-sound (graph .signals) (graph .constants) a (l .0);
                 consequent-sound = formula-sound (graph .signals) (graph .constants) c (l .1);
               };
-          inside = p .3;
+          fields = p .3;
         })
         (leb-false 128 _ (few .0)))
 
@@ -424,10 +425,10 @@ left-at t text n [] i l = absurd (omega arith)
 left-at t text n (e ∷ es) zero l = rw (add-zero n)
 left-at t text n (e ∷ es) (suc i) l = let z : n + 1 + i ≡ n + suc i = omega arith in rw (← z) (left-at t text (n + 1) es i (omega arith))
 
-edges-inside : (text : Bytes) (ss cs vs : List Bytes) (n : ℕ) (es : List Edge) (i : ℕ) → EdgesSound text ss cs vs n es → i < length es → fieldStart (lineOf text (n + i)) 4 ≤ length (lineOf text (n + i))
-edges-inside text ss cs vs n [] i h l = absurd (omega arith)
-edges-inside text ss cs vs n (e ∷ es) zero h l = rw (add-zero n) (h .0 .inside)
-edges-inside text ss cs vs n (e ∷ es) (suc i) h l = let z : n + 1 + i ≡ n + suc i = omega arith in rw (← z) (edges-inside text ss cs vs (n + 1) es i (h .1) (omega arith))
+edges-fields : (text : Bytes) (ss cs vs : List Bytes) (n : ℕ) (es : List Edge) (i : ℕ) → EdgesSound text ss cs vs n es → i < length es → EdgeFields (lineOf text (n + i))
+edges-fields text ss cs vs n [] i h l = absurd (omega arith)
+edges-fields text ss cs vs n (e ∷ es) zero h l = rw (add-zero n) (h .0 .fields)
+edges-fields text ss cs vs n (e ∷ es) (suc i) h l = let z : n + 1 + i ≡ n + suc i = omega arith in rw (← z) (edges-fields text ss cs vs (n + 1) es i (h .1) (omega arith))
 
 -- THE LAW: the graph of an accepted text is sound
 pub sound : (text : Bytes) {graph : Graph} → graphOf text ≡ accepted graph → Sound text graph
@@ -437,6 +438,10 @@ sound text {graph} h =
     let g = w .grown in
     let first = modeLines (graph .mode) in
     let arcs = arcsOf (isTerminal graph) text (first + namedOf graph + length (graph .vertices)) (graph .edges) in
+    let arc-at : (i : ℕ) → i < length (graph .edges) → getD (filled 128 noArc arcs) i noArc .left ≡ lineStart text (first + namedOf graph + length (graph .vertices) + i) + fieldStart (lineOf text (first + namedOf graph + length (graph .vertices) + i)) 4 =
+    (λ i l.
+    let p : i < length arcs = rw (arcs-length (isTerminal graph) text (first + namedOf graph + length (graph .vertices)) (graph .edges)) l in
+    rw (List·getD-append arcs (replicate (128 - length arcs) noArc) noArc i p) (left-at (isTerminal graph) text (first + namedOf graph + length (graph .vertices)) (graph .edges) i l)) in
     record {
       signals-few = g .signals-few;
       constants-few = g .constants-few;
@@ -454,12 +459,15 @@ sound text {graph} h =
           let p : i < length arcs = rw (arcs-length (isTerminal graph) text (first + namedOf graph + length (graph .vertices)) (graph .edges)) l in
           rw (List·getD-append arcs (replicate (128 - length arcs) noArc) noArc i p)
           (edges-at (isTerminal graph) text (graph .signals) (graph .constants) (graph .vertices) (first + namedOf graph + length (graph .vertices)) (graph .edges) i d (g .edges) l);
+      edge-line = λ i l.
+          let n = first + namedOf graph + length (graph .vertices) in
+          rw (arc-at i l)
+          (edge-behind text (n + i) (edges-fields text (graph .signals) (graph .constants) (graph .vertices) n (graph .edges) i (g .edges) l) (line-inside text (recordsOf graph) (w .inside) (w .over) (n + i) (omega arith)));
       own-line = λ i l.
           let n = first + namedOf graph + length (graph .vertices) in
-          let p : i < length arcs = rw (arcs-length (isTerminal graph) text n (graph .edges)) l in
           let z : recordsOf graph - (n + i) ≡ length (graph .edges) - i = omega arith in
-          rw (List·getD-append arcs (replicate (128 - length arcs) noArc) noArc i p, left-at (isTerminal graph) text n (graph .edges) i l)
-          (breaks-from text (recordsOf graph) (w .inside) (w .over) (n + i) _ (omega arith) (edges-inside text (graph .signals) (graph .constants) (graph .vertices) n (graph .edges) i (g .edges) l) ∙ z);
+          rw (arc-at i l)
+          (breaks-from text (recordsOf graph) (w .inside) (w .over) (n + i) _ (omega arith) (fits-line (lineOf text (n + i)) (edges-fields text (graph .signals) (graph .constants) (graph .vertices) n (graph .edges) i (g .edges) l)) ∙ z);
     }
 
 -- a formula's bytes stand within the text

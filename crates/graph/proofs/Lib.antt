@@ -7,6 +7,7 @@ pub mod RecordLaws
 pub mod WordLaws
 pub mod EdgeLaws
 pub mod FieldLaws
+pub mod EdgeLineLaws
 pub mod ArrayLaws
 pub mod ModeLineLaws
 pub mod ModeLaws

@@ -17,10 +17,10 @@ use Rattle.assertion.specs.declared.Mode.the-variants.{Unsaid}
 use Rattle.graph.specs.Pieces.{onto, split, lookUp}
 use Rattle.graph.specs.Records.{Record, shapeless, mode, signal, constant, vertex, edge, ofFields, recordOf}
 use Rattle.graph.specs.Reading.{Step, fault, went, modeLines, addMode, addSignal, addConstant, addVertex, edgeOf, unlessFaulty, judgeEdge, addEdge, add, namesOf, judgedFormula, lower, refused, accepted, finished, readLines, nothing, faultNumber, refusalOf, graphOf}
-use Rattle.graph.specs.Claims.{breaks}
-use Rattle.graph.specs.ModeClaims.{ModeWord, StartsLine, ModeLine, FirstLine, RefusedAfter}
+use Rattle.graph.specs.Claims.{breaks, StartsLine}
+use Rattle.graph.specs.ModeClaims.{ModeWord, ModeLine, FirstLine, RefusedAfter}
 use Rattle.graph.specs.ModeClaims.ModeWord.{terminal, strong}
-use Rattle.graph.specs.ModeClaims.StartsLine.{first, next}
+use Rattle.graph.specs.Claims.StartsLine.{first, next}
 use Rattle.graph.specs.ModeClaims.FirstLine.{says, silent}
 use Rattle.graph.specs.ModeClaims.RefusedAfter.{here, earlier}
 use Rattle.graph.specs.Private.Steps.{recordsOf}

@@ -70,6 +70,10 @@ pub first-piece : (b : ℕ) (x : Bytes) {p q : Bytes} {ps : List Bytes} → spli
 unfolding joined
 first-piece b x {p} {q} {ps} e = (joined b (q ∷ ps), sym (split-join b x) ∙ ap (joined b) e)
 
+pub six-pieces : (b : ℕ) (x : Bytes) {k f t m a c : Bytes} → split b x ≡ k ∷ f ∷ t ∷ m ∷ a ∷ c ∷ [] → x ≡ k ++ (b ∷ (f ++ (b ∷ (t ++ (b ∷ (m ++ (b ∷ (a ++ (b ∷ c)))))))))
+unfolding joined
+six-pieces b x e = sym (split-join b x) ∙ ap (joined b) e
+
 pub one-piece : (b : ℕ) (x : Bytes) {p : Bytes} → split b x ≡ p ∷ [] → x ≡ p
 unfolding joined
 one-piece b x e = sym (split-join b x) ∙ ap (joined b) e

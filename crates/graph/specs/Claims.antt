@@ -33,11 +33,27 @@ abbrev pub breaks : Bytes → ℕ
 breaks [] = 0
 breaks (b ∷ s) = cond (eqb b (code "\n")) 1 0 + breaks s
 
--- an edge's mark stands between two tabs, before its antecedent at p
-pub record MarkAt (text : Bytes) (p : ℕ) (marked : Bool) : Type 0 where
-  pub tab-before : getD text (p - 3) 0 ≡ code "\t"
-  pub mark : getD text (p - 2) 0 ≡ cond marked (code "t") (code "-")
-  pub tab-after : getD text (p - 1) 0 ≡ code "\t"
+-- a line may start after these bytes: there are none, or the last is LF
+pub data StartsLine (before : Bytes) : Type 0 where
+  first : before ≡ [] → StartsLine before
+  next : (lines : Bytes) → before ≡ lines ++ (code "\n" ∷ []) → StartsLine before
+
+-- within a line a field ends before its tab
+pub record IsField (field : Bytes) : Type 0 where
+  pub no-tab : (left right : Bytes) → field ≡ left ++ (code "\t" ∷ right) → ⊥
+  pub no-lf : (left right : Bytes) → field ≡ left ++ (code "\n" ∷ right) → ⊥
+
+-- at p, behind `E`, two fields and a mark of one byte, an edge's antecedent begins
+pub record EdgeLine (text : Bytes) (p : ℕ) : Type 0 where
+  pub before : Bytes
+  pub from : Bytes
+  pub to : Bytes
+  pub mark : ℕ
+  pub starts : StartsLine before
+  pub from-field : IsField from
+  pub to-field : IsField to
+  pub bytes : take p text ≡ before ++ (code "E" ∷ code "\t" ∷ (from ++ (code "\t" ∷ (to ++ (code "\t" ∷ mark ∷ code "\t" ∷ [])))))
+  pub inside : p ≤ length text
 
 -- an edge between vertices of vs, terminal or not, whose formulas stand in the text where its arc says
 pub record EdgeSound (text : Bytes) (ss cs vs : List Bytes) (terminal : Bool) (a : Arc) (e : Edge) : Type 0 where
@@ -46,7 +62,7 @@ pub record EdgeSound (text : Bytes) (ss cs vs : List Bytes) (terminal : Bool) (a
   pub from-is : a .from ≡ e .from
   pub to-is : a .to ≡ e .to
   pub terminal-is : a .terminal ≡ terminal
-  pub mark-at : MarkAt text (a .left) (e .marked)
+  pub mark-is : getD text (a .left - 2) 0 ≡ cond (e .marked) (code "t") (code "-")
   pub antecedent-at : FormulaAt text (a .left) (a .lefts) (e .antecedentText)
   pub consequent-at : FormulaAt text (a .right) (a .rights) (e .consequentText)
   pub antecedent-sound : FormulaSound ss cs (e .antecedentText) (e .antecedent)
@@ -68,7 +84,8 @@ pub record Sound (text : Bytes) (graph : Graph) : Type 0 where
   pub name-at : (i : ℕ) (d : Bytes) → i < length (graph .signals) + length (graph .constants) → pieceAt 10 text (getD (heldOf text graph .names) i 0) ≡ getD (namesOf graph) i d
   pub point-at : (i : ℕ) (d : Bytes) → i < length (graph .vertices) → pieceAt 10 text (getD (heldOf text graph .points) i 0) ≡ getD (graph .vertices) i d
   pub edge-at : (i : ℕ) (d : Edge) → i < length (graph .edges) → EdgeSound text (graph .signals) (graph .constants) (graph .vertices) (isTerminal graph (getD (graph .edges) i d)) (getD (heldOf text graph .arcs) i noArc) (getD (graph .edges) i d)
-  -- the edges are the last lines, in order
+  -- the edges are the last lines, in order: from an antecedent on there are as many LF as edges are left, its own counted
+  pub edge-line : (i : ℕ) → i < length (graph .edges) → EdgeLine text (getD (heldOf text graph .arcs) i noArc .left)
   pub own-line : (i : ℕ) → i < length (graph .edges) → breaks (drop (getD (heldOf text graph .arcs) i noArc .left) text) ≡ length (graph .edges) - i
 
 -- THE CLAIM

@@ -1,5 +1,6 @@
--- What the contract of read_graph claims of `M` lines and terminal edges, by the bytes of the text, and not by the
--- definitions that read them. Assumes nothing.
+-- What the contract of read_graph claims of `M` lines and terminal edges, by the bytes of the text. `graphOf` stands
+-- here for the graph of a text, or its refusal, where two texts are compared and where the answer is tied to the graph
+-- of which the other theorems speak; how it reads an `M` line or a mark is not used. Assumes nothing.
 use Prim.Native.Nat.{ℕ, _+_, _-_, _≤_, _<_}
 use Prim.Native.Char.{code}
 use mathlib.Core.Path.{_≡_}
@@ -11,8 +12,8 @@ use Rattle.assertion.specs.Graph.{Bytes, Graph}
 use Rattle.assertion.specs.declared.Mode.{Mode}
 use Rattle.assertion.specs.declared.Mode.the-variants.{Unsaid, Terminal, Strong}
 use Rattle.graph.specs.Reading.{Outcome, refused, accepted, refusalOf, graphOf}
-use Rattle.graph.specs.Held.{noArc}
-use Rattle.graph.specs.Claims.{breaks}
+use Rattle.graph.specs.Held.{noArc, heldOf}
+use Rattle.graph.specs.Claims.{breaks, StartsLine, EdgeLine}
 use Rattle.graph.specs.declared.Fault.{Fault}
 use Rattle.graph.specs.declared.Cause.{Cause}
 use Rattle.graph.specs.declared.Cause.the-variants.{FaultyLine, NoVertex}
@@ -26,11 +27,6 @@ pub data ModeWord : Bytes → Mode → Type 0 where
   terminal : ModeWord (code "t" ∷ code "e" ∷ code "r" ∷ code "m" ∷ code "i" ∷ code "n" ∷ code "a" ∷ code "l" ∷ []) Terminal
   strong : ModeWord (code "s" ∷ code "t" ∷ code "r" ∷ code "o" ∷ code "n" ∷ code "g" ∷ []) Strong
 
--- a line may start after these bytes: there are none, or the last is LF
-pub data StartsLine (before : Bytes) : Type 0 where
-  first : before ≡ [] → StartsLine before
-  next : (lines : Bytes) → before ≡ lines ++ (code "\n" ∷ []) → StartsLine before
-
 -- after these bytes stands a line that is `M`, a tab and a word, with its LF, and after that the others
 pub record ModeLine (text before word after : Bytes) : Type 0 where
   pub bytes : text ≡ before ++ (code "M" ∷ code "\t" ∷ (word ++ (code "\n" ∷ after)))
@@ -42,7 +38,8 @@ pub data FirstLine (text : Bytes) : Mode → Type 0 where
   says : (word after : Bytes) (m : Mode) → ModeWord word m → ModeLine text [] word after → FirstLine text m
   silent : ((word after : Bytes) → ModeLine text [] word after → ⊥) → FirstLine text Unsaid
 
--- the answer refuses the line after these bytes with this number, unless they are refused for a line of their own
+-- the answer refuses the line after these bytes with this number, unless these bytes by themselves are refused for a
+-- line of theirs: then it refuses that
 pub data RefusedAfter (before : Bytes) (number : ℕ) (r : GraphRead) : Type 0 where
   here : (cause : Cause) → r .outcome ≡ Refused cause → refusalOf cause ≡ record { number = number; line = breaks before + 1 } → RefusedAfter before number r
   earlier : (f : Fault) (n : ℕ) → graphOf before ≡ refused (FaultyLine f n) → r .outcome ≡ Refused (FaultyLine f n) → RefusedAfter before number r
@@ -64,30 +61,34 @@ pub data Chosen (text : Bytes) (g : CheckedGraph) (i : ℕ) : Type 0 where
   mark-t : markAt text g i ≡ code "t" → Chosen text g i
   no-mark : g .mode ≡ Unsaid → ((j : ℕ) → j < g .edges → markAt text g j ≡ code "-") → Chosen text g i
 
--- the mark is `t` or `-`, between two tabs, on the edge's own line, as the edges are the last lines; and the edge is
--- terminal where there is a reason
+-- the antecedent stands behind `E`, two fields and the mark, and from it on there are as many LF as edges are left,
+-- this one counted; the mark is `t` or `-`; and the edge is terminal where there is a reason
 pub record EdgeChosen (text : Bytes) (g : CheckedGraph) (i : ℕ) : Type 0 where
+  pub behind : EdgeLine text (getD (g .arcs) i noArc .left)
   pub own-line : breaks (drop (getD (g .arcs) i noArc .left) text) ≡ g .edges - i
-  pub tab-before : getD text (getD (g .arcs) i noArc .left - 3) 0 ≡ code "\t"
   pub mark : (markAt text g i ≡ code "t") ⊎ (markAt text g i ≡ code "-")
-  pub tab-after : getD text (getD (g .arcs) i noArc .left - 1) 0 ≡ code "\t"
   pub reason : getD (g .arcs) i noArc .terminal ≡ true → Chosen text g i
   pub chosen : Chosen text g i → getD (g .arcs) i noArc .terminal ≡ true
 
--- what is answered of a graph
-pub record Answered (g : Graph) (r : GraphRead) : Type 0 where
+-- a graph is answered: it is accepted, and given with its mode, its counts and its edges by their places
+pub record Answered (text : Bytes) (g : Graph) (r : GraphRead) : Type 0 where
   pub checked : r .outcome ≡ Checked
+  pub held : r .graph ≡ heldOf text g
   pub mode : r .graph .mode ≡ g .mode
+  pub signals : r .graph .signals ≡ length (g .signals)
+  pub constants : r .graph .constants ≡ length (g .constants)
+  pub vertices : r .graph .vertices ≡ length (g .vertices)
   pub edges : r .graph .edges ≡ length (g .edges)
 
 -- THE CLAIM of the answer r to a text
 pub record ModeMeans (text : Bytes) (r : GraphRead) : Type 0 where
-  pub accepts : (g : Graph) → graphOf text ≡ accepted g → Answered g r
+  -- what is claimed of the graph of the text is claimed of the answer
+  pub accepts : (g : Graph) → graphOf text ≡ accepted g → Answered text g r
   pub refuses : (cause : Cause) → graphOf text ≡ refused cause → r .outcome ≡ Refused cause
   -- the bytes of an `M` line count
   pub too-long : 32768 < length text → (cause : Cause) × (r .outcome ≡ Refused cause) × (refusalOf cause ≡ record { number = 1; line = 0 })
   pub first-line : r .outcome ≡ Checked → FirstLine text (r .graph .mode)
-  pub terminal : r .outcome ≡ Checked → (i : ℕ) → i < r .graph .edges → EdgeChosen text (r .graph) i
+  pub edges-chosen : r .outcome ≡ Checked → (i : ℕ) → i < r .graph .edges → EdgeChosen text (r .graph) i
   -- "Another `M` line is 3; another word is 2"
   pub another : (before word after : Bytes) (m : Mode) → ModeLine text before word after → ModeWord word m → (before ≡ [] → ⊥) → length text ≤ 32768 → RefusedAfter before 3 r
   pub other-word : (before word after : Bytes) → ModeLine text before word after → ((m : Mode) → ModeWord word m → ⊥) → length text ≤ 32768 → RefusedAfter before 2 r

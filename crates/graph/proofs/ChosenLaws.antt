@@ -1,5 +1,5 @@
 -- The terminal edges of an accepted text, by the bytes of their marks; and the claim on modes. Assumes nothing.
-use Prim.Native.Nat.{ℕ, zero, suc, _-_, _<_}
+use Prim.Native.Nat.{ℕ, zero, suc, _-_, _≤_, _<_}
 use mathlib.Core.Path.{_≡_, refl, sym, ap, subst, _∙_}
 use mathlib.Core.Logic.{_⊎_, inl, inr}
 use mathlib.Core.Bool.{Bool, true, false, cond}
@@ -24,6 +24,7 @@ use Rattle.graph.specs.declared.GraphRead.{GraphRead}
 use Rattle.graph.proofs.HeldLaws.{sound}
 use Rattle.graph.proofs.AnswerLaws.{CheckedText, checked-text}
 use Rattle.graph.proofs.ModeTextLaws.{refused-outcome, first-line, mode-again, word-wrong, word-missing, lf-missing}
+use Rattle.graph.proofs.MarkLaws.{mark-free}
 use Rattle.graph.proofs.UnseenLaws.{unseen}
 
 -- ---- all edges of a list, by index
@@ -131,6 +132,8 @@ mode-means text {r} e =
       other-word = λ before word after w q short. word-wrong w q short e;
       no-word = λ before after starts b short. word-missing after starts b short e;
       no-lf = λ before rest starts b plain short. lf-missing rest starts b plain short e;
+      mark-free = λ before from to rest m other starts hf ht p q b short cause h.
+          refused-outcome text (ap graphOf b ∙ mark-free before from to rest m other starts hf ht p q (subst (λ (x : Bytes). length x ≤ 32768) b short) h) e;
       unseen = λ word after m w q f short. unseen w q f short;
     }
 

@@ -2,7 +2,7 @@
 use Prim.Native.Nat.{ℕ, zero, suc, _+_, _-_, _≤_, _<_}
 use mathlib.Core.Path.{_≡_, refl, sym, ap, _∙_}
 use mathlib.Core.Bool.{Bool, true, false}
-use mathlib.Core.List.{List, [], _∷_, _++_, append-assoc}
+use mathlib.Core.List.{[], _∷_, _++_, append-assoc}
 use native.Mathlib.Numerals.{add-one}
 use native.Mathlib.Omega.{arith}
 use borrow.Author.Tests.{eqb-false}
@@ -12,7 +12,7 @@ use lib.Seq.{take-suc, take-add, take-take, take-at}
 use Rattle.assertion.specs.Graph.{Bytes}
 use Rattle.graph.specs.Pieces.{split, upTo, endAt, pieceAt}
 use Rattle.graph.specs.Held.{lineStart, lineOf, fieldStart}
-use Rattle.graph.specs.Claims.{StartsLine, IsField, EdgeLine}
+use Rattle.graph.specs.Claims.{StartsLine, EdgeLine}
 use Rattle.graph.specs.Claims.StartsLine.{first, next}
 use Rattle.graph.proofs.SplitLaws.{two-pieces, six-pieces}
 use Rattle.graph.proofs.FieldLaws.{EdgeFields, field-left, field-zero, end-byte}

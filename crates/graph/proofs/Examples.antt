@@ -2,8 +2,8 @@
 use mathlib.Core.Path.{_≡_, refl}
 use Prim.Native.Nat.{ℕ, _+_}
 use mathlib.Core.Bool.{Bool, true, false}
-use mathlib.Core.List.{[], _∷_, _++_}
-use lib.ListN.{replicate}
+use mathlib.Core.List.{List, [], _∷_, _++_, map}
+use lib.ListN.{take, replicate}
 use Rattle.text.specs.Quoted.{bytes}
 use Rattle.formula.specs.Classes.{classOf, isLetter, isWordClass, strengthOf, startOf, run, nameBytes, isName}
 use Rattle.formula.specs.Grammar.{andThen, nameOf, closed, operandOf, expressionOf, restOf, whole, treeOf, depthOf}
@@ -105,6 +105,10 @@ heldWith mode n t =
       arcs = record { from = 0; to = 1; terminal = t; left = n + 24; lefts = 1; right = n + 26; rights = 1 } ∷ replicate 127 noArc;
     }
 
+-- whether the edges of a text are terminal
+abbrev marksOf : Bytes → List Bool
+marksOf text = map (λ a. a .terminal) (take (readOf text .graph .edges) (readOf text .graph .arcs))
+
 record Examples : Type 0 where
   graph-g : graphOf textG ≡ accepted (graphWith Unsaid true)
   held-g : readOf textG ≡ record { outcome = Checked; graph = heldWith Unsaid 0 true }
@@ -112,6 +116,13 @@ record Examples : Type 0 where
   unmarked : readOf (textWith 45) ≡ record { outcome = Checked; graph = heldWith Unsaid 0 true }
   terminal : readOf (Mline (bytes "terminal") ++ textWith 45) ≡ record { outcome = Checked; graph = heldWith Terminal 11 false }
   strong : readOf (Mline (bytes "strong") ++ textWith 45) ≡ record { outcome = Checked; graph = heldWith Strong 9 true }
+  -- two edges, of which one is marked: `E a b - 1 0`, `E a b t 1 1`
+  one-marked : marksOf (Va ++ (Vb ++ (Emark 45 (49 ∷ []) (48 ∷ []) ++ Emark 116 (49 ∷ []) (49 ∷ [])))) ≡ false ∷ true ∷ []
+  one-marked-terminal : marksOf (Mline (bytes "terminal") ++ (Va ++ (Vb ++ (Emark 45 (49 ∷ []) (48 ∷ []) ++ Emark 116 (49 ∷ []) (49 ∷ []))))) ≡ false ∷ true ∷ []
+  one-marked-strong : marksOf (Mline (bytes "strong") ++ (Va ++ (Vb ++ (Emark 45 (49 ∷ []) (48 ∷ []) ++ Emark 116 (49 ∷ []) (49 ∷ []))))) ≡ true ∷ true ∷ []
+  none-marked : marksOf (Va ++ (Vb ++ (Emark 45 (49 ∷ []) (48 ∷ []) ++ Emark 45 (49 ∷ []) (49 ∷ [])))) ≡ true ∷ true ∷ []
+  -- `M` is a name too: `S M`, `V M`, `E M M - M M`
+  mode-name : marksOf (Mline (bytes "strong") ++ bytes "S\tM\nV\tM\nE\tM\tM\t-\tM\tM\n") ≡ true ∷ []
   -- an `M` line is no vertex
   mode-alone : graphOf (Mline (bytes "terminal")) ≡ refused NoVertex
   -- another word; no word; a third field; no LF; another letter
@@ -159,6 +170,11 @@ examples =
       unmarked = refl;
       terminal = refl;
       strong = refl;
+      one-marked = refl;
+      one-marked-terminal = refl;
+      one-marked-strong = refl;
+      none-marked = refl;
+      mode-name = refl;
       mode-alone = refl;
       mode-weak = refl;
       mode-capital = refl;

@@ -16,6 +16,7 @@ pub mod HeldLaws
 pub mod TextLaws
 pub mod ModeTextLaws
 pub mod UnseenLaws
+pub mod MarkLaws
 pub mod AnswerLaws
 pub mod ChosenLaws
 mod Examples

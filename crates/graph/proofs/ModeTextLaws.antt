@@ -155,7 +155,7 @@ pub data Prefix (g : Graph) (n : ℕ) (ls rest : List Bytes) : Type 0 where
   stops : (f : Fault) (m : ℕ) → readLines g n (ls ++ ([] ∷ [])) ≡ refused (FaultyLine f m) → readLines g n (ls ++ rest) ≡ refused (FaultyLine f m) → Prefix g n ls rest
   goes : (more : Graph) → readLines g n (ls ++ rest) ≡ readLines more (n + length ls) rest → (1 ≤ recordsOf g + length ls → 1 ≤ recordsOf more) → Prefix g n ls rest
 
-joined-some : (ls rest : List Bytes) → (rest ≡ [] → ⊥) → (ls ++ rest ≡ [] → ⊥)
+pub joined-some : (ls rest : List Bytes) → (rest ≡ [] → ⊥) → (ls ++ rest ≡ [] → ⊥)
 joined-some [] rest h e = h e
 joined-some (l ∷ ls) rest h e = let z : _≡_ {A = ℕ} 0 1 = cc in omega arith
 

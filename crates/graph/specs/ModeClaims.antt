@@ -13,7 +13,7 @@ use Rattle.assertion.specs.declared.Mode.{Mode}
 use Rattle.assertion.specs.declared.Mode.the-variants.{Unsaid, Terminal, Strong}
 use Rattle.graph.specs.Reading.{Outcome, refused, accepted, refusalOf, graphOf}
 use Rattle.graph.specs.Held.{noArc, heldOf}
-use Rattle.graph.specs.Claims.{breaks, StartsLine, EdgeLine}
+use Rattle.graph.specs.Claims.{breaks, StartsLine, IsField, EdgeLine}
 use Rattle.graph.specs.declared.Fault.{Fault}
 use Rattle.graph.specs.declared.Cause.{Cause}
 use Rattle.graph.specs.declared.Cause.the-variants.{FaultyLine, NoVertex}
@@ -49,6 +49,15 @@ pub data Moved (m : Mode) : Outcome → Outcome → Type 0 where
   taken : (g : Graph) → Moved m (accepted g) (accepted (record { mode = m; signals = g .signals; constants = g .constants; vertices = g .vertices; edges = g .edges }))
   later : (f : Fault) (n : ℕ) → Moved m (refused (FaultyLine f n)) (refused (FaultyLine f (n + 1)))
   vertexless : Moved m (refused NoVertex) (refused NoVertex)
+
+-- ---- marks
+pub data IsMark (m : ℕ) : Type 0 where
+  t-mark : m ≡ code "t" → IsMark m
+  dash : m ≡ code "-" → IsMark m
+
+-- the line of an edge with this mark: what stands before it, its vertices, and all that follows the mark
+abbrev pub marked : Bytes → Bytes → Bytes → Bytes → ℕ → Bytes
+marked before from to rest m = before ++ (code "E" ∷ code "\t" ∷ (from ++ (code "\t" ∷ (to ++ (code "\t" ∷ m ∷ code "\t" ∷ rest)))))
 
 -- ---- terminal edges
 -- the mark of edge i stands two bytes before its antecedent
@@ -95,5 +104,7 @@ pub record ModeMeans (text : Bytes) (r : GraphRead) : Type 0 where
   -- no word, and no LF
   pub no-word : (before after : Bytes) → StartsLine before → text ≡ before ++ (code "M" ∷ code "\n" ∷ after) → length text ≤ 32768 → RefusedAfter before 2 r
   pub no-lf : (before rest : Bytes) → StartsLine before → text ≡ before ++ (code "M" ∷ rest) → ((left right : Bytes) → rest ≡ left ++ (code "\n" ∷ right) → ⊥) → length text ≤ 32768 → RefusedAfter before 2 r
+  -- a mark never decides what is refused
+  pub mark-free : (before from to rest : Bytes) (m other : ℕ) → StartsLine before → IsField from → IsField to → IsMark m → IsMark other → text ≡ marked before from to rest m → length text ≤ 32768 → (cause : Cause) → graphOf (marked before from to rest other) ≡ refused cause → r .outcome ≡ Refused cause
   -- the other lines are judged as without it
   pub unseen : (word after : Bytes) (m : Mode) → ModeLine text [] word after → ModeWord word m → FirstLine after Unsaid → length text ≤ 32768 → Moved m (graphOf after) (graphOf text)

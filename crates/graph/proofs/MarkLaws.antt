@@ -13,8 +13,7 @@ use Rattle.graph.specs.Pieces.{onto, split, same, lookUp}
 use Rattle.graph.specs.Records.{Record, shapeless, mode, signal, constant, vertex, edge, marked, edged, ofFields, recordOf}
 use Rattle.graph.specs.Reading.{Step, fault, went, modeLines, addMode, addSignal, addConstant, addVertex, edgeOf, namesOf, judgedFormula, lower, unlessFaulty, judgeEdge, addEdge, add, Outcome, refused, accepted, finished, readLines, nothing, graphOf}
 use Rattle.graph.specs.Claims.{StartsLine, IsField}
-use Rattle.graph.specs.ModeClaims as claims
-use Rattle.graph.specs.ModeClaims.{IsMark}
+use Rattle.graph.specs.ModeClaims.{IsMark, edgeText}
 use Rattle.graph.specs.ModeClaims.IsMark.{t-mark, dash}
 use Rattle.graph.specs.declared.Fault.{Fault}
 use Rattle.graph.specs.declared.Fault.the-variants.{WrongShape, WrongOrder, TooMany, NameRepeated, UnknownVertex}
@@ -279,9 +278,9 @@ marked-by (t-mark e) = (true, e)
 marked-by (dash e) = (false, e)
 
 -- THE LAW
-pub mark-free : (before from to rest : Bytes) (m other : ℕ) → StartsLine before → IsField from → IsField to → IsMark m → IsMark other → length (claims.marked before from to rest m) ≤ 32768 → {cause : Cause} → graphOf (claims.marked before from to rest other) ≡ refused cause → graphOf (claims.marked before from to rest m) ≡ refused cause
+pub mark-free : (before from to rest : Bytes) (m other : ℕ) → StartsLine before → IsField from → IsField to → IsMark m → IsMark other → length (edgeText before from to rest m) ≤ 32768 → {cause : Cause} → graphOf (edgeText before from to rest other) ≡ refused cause → graphOf (edgeText before from to rest m) ≡ refused cause
 unfolding text-of
 mark-free before from to rest m other starts hf ht p q short {cause} =
     let b = marked-by p in
     let c = marked-by q in
-    rw (b .1, c .1) (λ e. ends-refused (texts-alike rest starts hf ht (c .0) (b .0) (subst (λ (x : ℕ). length (claims.marked before from to rest x) ≤ 32768) (b .1) short)) e)
+    rw (b .1, c .1) (λ e. ends-refused (texts-alike rest starts hf ht (c .0) (b .0) (subst (λ (x : ℕ). length (edgeText before from to rest x) ≤ 32768) (b .1) short)) e)

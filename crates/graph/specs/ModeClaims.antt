@@ -55,9 +55,9 @@ pub data IsMark (m : ℕ) : Type 0 where
   t-mark : m ≡ code "t" → IsMark m
   dash : m ≡ code "-" → IsMark m
 
--- the line of an edge with this mark: what stands before it, its vertices, and all that follows the mark
-abbrev pub marked : Bytes → Bytes → Bytes → Bytes → ℕ → Bytes
-marked before from to rest m = before ++ (code "E" ∷ code "\t" ∷ (from ++ (code "\t" ∷ (to ++ (code "\t" ∷ m ∷ code "\t" ∷ rest)))))
+-- a text with an edge of this mark: what stands before its line, its vertices, and all that follows the mark
+abbrev pub edgeText : Bytes → Bytes → Bytes → Bytes → ℕ → Bytes
+edgeText before from to rest m = before ++ (code "E" ∷ code "\t" ∷ (from ++ (code "\t" ∷ (to ++ (code "\t" ∷ m ∷ code "\t" ∷ rest)))))
 
 -- ---- terminal edges
 -- the mark of edge i stands two bytes before its antecedent
@@ -105,6 +105,6 @@ pub record ModeMeans (text : Bytes) (r : GraphRead) : Type 0 where
   pub no-word : (before after : Bytes) → StartsLine before → text ≡ before ++ (code "M" ∷ code "\n" ∷ after) → length text ≤ 32768 → RefusedAfter before 2 r
   pub no-lf : (before rest : Bytes) → StartsLine before → text ≡ before ++ (code "M" ∷ rest) → ((left right : Bytes) → rest ≡ left ++ (code "\n" ∷ right) → ⊥) → length text ≤ 32768 → RefusedAfter before 2 r
   -- a mark never decides what is refused
-  pub mark-free : (before from to rest : Bytes) (m other : ℕ) → StartsLine before → IsField from → IsField to → IsMark m → IsMark other → text ≡ marked before from to rest m → length text ≤ 32768 → (cause : Cause) → graphOf (marked before from to rest other) ≡ refused cause → r .outcome ≡ Refused cause
+  pub mark-free : (before from to rest : Bytes) (m other : ℕ) → StartsLine before → IsField from → IsField to → IsMark m → IsMark other → text ≡ edgeText before from to rest m → length text ≤ 32768 → (cause : Cause) → graphOf (edgeText before from to rest other) ≡ refused cause → r .outcome ≡ Refused cause
   -- the other lines are judged as without it
   pub unseen : (word after : Bytes) (m : Mode) → ModeLine text [] word after → ModeWord word m → FirstLine after Unsaid → length text ≤ 32768 → Moved m (graphOf after) (graphOf text)

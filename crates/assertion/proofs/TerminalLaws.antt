@@ -63,17 +63,6 @@ terminal-each g e h = by (g .mode) refl h
     by Strong k n = rw (isTerminal, k)
 
 -- ---- the three reasons
-pub reason : (g : Graph) (e : Edge) → isTerminal g e ≡ true → TerminalEdge g e
-unfolding isTerminal
-reason g e h = by (g .mode) (e .marked) (any marks (g .edges)) refl refl refl
-  where
-    by : (m : Mode) (b c : Bool) → g .mode ≡ m → e .marked ≡ b → any marks (g .edges) ≡ c → TerminalEdge g e
-    by m true c k l n = by-mark l
-    by Unsaid false true k l n = let z : isTerminal g e ≡ false = rw (isTerminal, k, l, n) in let w : _≡_ {A = ℕ} 0 1 = cc in absurd (omega arith)
-    by Unsaid false false k l n = unmarked k (none-marked (g .edges) n)
-    by Terminal false c k l n = let z : isTerminal g e ≡ false = rw (isTerminal, k, l) in let w : _≡_ {A = ℕ} 0 1 = cc in absurd (omega arith)
-    by Strong false c k l n = by-mode k
-
 pub for-reason : (g : Graph) (e : Edge) → TerminalEdge g e → isTerminal g e ≡ true
 unfolding isTerminal each
 for-reason g e (by-mode k) = rw k
@@ -84,3 +73,14 @@ for-reason g e (by-mark l) = by (g .mode) refl
     by Terminal k = rw (isTerminal, k, l)
     by Strong k = rw (isTerminal, k)
 for-reason g e (unmarked k n) = terminal-each g e (rw (each, k, marked-none (g .edges) n))
+
+pub reason : (g : Graph) (e : Edge) → isTerminal g e ≡ true → TerminalEdge g e
+unfolding isTerminal
+reason g e h = by (g .mode) (e .marked) (any marks (g .edges)) refl refl refl
+  where
+    by : (m : Mode) (b c : Bool) → g .mode ≡ m → e .marked ≡ b → any marks (g .edges) ≡ c → TerminalEdge g e
+    by m true c k l n = by-mark l
+    by Unsaid false true k l n = let z : isTerminal g e ≡ false = rw (isTerminal, k, l, n) in let w : _≡_ {A = ℕ} 0 1 = cc in absurd (omega arith)
+    by Unsaid false false k l n = unmarked k (none-marked (g .edges) n)
+    by Terminal false c k l n = let z : isTerminal g e ≡ false = rw (isTerminal, k, l) in let w : _≡_ {A = ℕ} 0 1 = cc in absurd (omega arith)
+    by Strong false c k l n = by-mode k

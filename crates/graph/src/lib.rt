@@ -1,6 +1,7 @@
-// Graph text: its records, its refusals, and the checked graph by places in the text; what a graph and a
-// rejecting path are stands in assertion. Knows nothing of netlists. Exports that the graph of an accepted
-// text keeps to the limits, and that its names and formulas stand where the checked graph says.
+// Graph text: its `M` line, its records, its refusals, and the checked graph by places in the text; what a
+// graph and a rejecting path are stands in assertion. Knows nothing of netlists. Exports that the graph of an
+// accepted text keeps to the limits, that its names and formulas stand where the checked graph says, and what
+// `M` lines and marks make of it.
 ghost use mathlib.Core.Path.{_≡_};
 ghost use Prim.Native.Nat.{_+_, _≤_};
 ghost use lib.ListN.{length};

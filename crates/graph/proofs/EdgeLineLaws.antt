@@ -12,8 +12,9 @@ use lib.Seq.{take-suc, take-add, take-take, take-at}
 use Rattle.assertion.specs.Graph.{Bytes}
 use Rattle.graph.specs.Pieces.{split, upTo, endAt, pieceAt}
 use Rattle.graph.specs.Held.{lineStart, lineOf, fieldStart}
-use Rattle.graph.specs.Claims.{StartsLine, EdgeLine}
-use Rattle.graph.specs.Claims.StartsLine.{first, next}
+use Rattle.graph.specs.Claims.{EdgeLine}
+use Rattle.text.specs.Lines.{StartsLine}
+use Rattle.text.specs.Lines.StartsLine.{first, next}
 use Rattle.graph.proofs.SplitLaws.{two-pieces, six-pieces}
 use Rattle.graph.proofs.FieldLaws.{EdgeFields, field-left, field-zero, end-byte}
 

@@ -12,7 +12,8 @@ use Rattle.assertion.specs.Graph.{Bytes, Edge, Graph}
 use Rattle.graph.specs.Pieces.{onto, split, same, lookUp}
 use Rattle.graph.specs.Records.{Record, shapeless, mode, signal, constant, vertex, edge, marked, edged, ofFields, recordOf}
 use Rattle.graph.specs.Reading.{Step, fault, went, modeLines, addMode, addSignal, addConstant, addVertex, edgeOf, namesOf, judgedFormula, lower, unlessFaulty, judgeEdge, addEdge, add, Outcome, refused, accepted, finished, readLines, nothing, graphOf}
-use Rattle.graph.specs.Claims.{StartsLine, IsField}
+use Rattle.graph.specs.Claims.{IsField}
+use Rattle.text.specs.Lines.{StartsLine}
 use Rattle.graph.specs.ModeClaims.{IsMark, edgeText}
 use Rattle.graph.specs.ModeClaims.IsMark.{t-mark, dash}
 use Rattle.graph.specs.declared.Fault.{Fault}

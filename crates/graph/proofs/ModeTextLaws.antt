@@ -17,10 +17,11 @@ use Rattle.assertion.specs.declared.Mode.the-variants.{Unsaid}
 use Rattle.graph.specs.Pieces.{onto, split, lookUp}
 use Rattle.graph.specs.Records.{Record, shapeless, mode, signal, constant, vertex, edge, ofFields, recordOf}
 use Rattle.graph.specs.Reading.{Step, fault, went, modeLines, addMode, addSignal, addConstant, addVertex, edgeOf, unlessFaulty, judgeEdge, addEdge, add, namesOf, judgedFormula, lower, refused, accepted, finished, readLines, nothing, faultNumber, refusalOf, graphOf}
-use Rattle.graph.specs.Claims.{breaks, StartsLine}
+use Rattle.graph.specs.Claims.{breaks}
+use Rattle.text.specs.Lines.{StartsLine}
 use Rattle.graph.specs.ModeClaims.{ModeWord, ModeLine, FirstLine, RefusedAfter}
 use Rattle.graph.specs.ModeClaims.ModeWord.{terminal, strong}
-use Rattle.graph.specs.Claims.StartsLine.{first, next}
+use Rattle.text.specs.Lines.StartsLine.{first, next}
 use Rattle.graph.specs.ModeClaims.FirstLine.{says, silent}
 use Rattle.graph.specs.ModeClaims.RefusedAfter.{here, earlier}
 use Rattle.graph.specs.Private.Steps.{recordsOf}
@@ -152,7 +153,7 @@ line-keeps g l {more} h e =
 -- ---- the lines read one after the other
 -- lines before others: they are refused by themselves, or the others are read after them
 pub data Prefix (g : Graph) (n : ℕ) (ls rest : List Bytes) : Type 0 where
-  stops : (f : Fault) (m : ℕ) → readLines g n (ls ++ ([] ∷ [])) ≡ refused (FaultyLine f m) → readLines g n (ls ++ rest) ≡ refused (FaultyLine f m) → Prefix g n ls rest
+  stops : (f : Fault) (m : ℕ) → m < n + length ls → readLines g n (ls ++ ([] ∷ [])) ≡ refused (FaultyLine f m) → readLines g n (ls ++ rest) ≡ refused (FaultyLine f m) → Prefix g n ls rest
   goes : (more : Graph) → readLines g n (ls ++ rest) ≡ readLines more (n + length ls) rest → (1 ≤ recordsOf g + length ls → 1 ≤ recordsOf more) → Prefix g n ls rest
 
 pub joined-some : (ls rest : List Bytes) → (rest ≡ [] → ⊥) → (ls ++ rest ≡ [] → ⊥)
@@ -167,15 +168,15 @@ prefix g n (l ∷ ls) rest h = by (add g (recordOf l)) refl (λ more. prefix mor
     none e = let z : _≡_ {A = ℕ} 0 1 = cc in omega arith
 
     next-of : (more : Graph) → add g (recordOf l) ≡ went more → Prefix more (n + 1) ls rest → Prefix g n (l ∷ ls) rest
-    next-of more e (stops f m a b) =
-        stops f m (read-next g n l (ls ++ ([] ∷ [])) (joined-some ls ([] ∷ []) none) e ∙ a) (read-next g n l (ls ++ rest) (joined-some ls rest h) e ∙ b)
+    next-of more e (stops f m s a b) =
+        stops f m (omega (arith, s)) (read-next g n l (ls ++ ([] ∷ [])) (joined-some ls ([] ∷ []) none) e ∙ a) (read-next g n l (ls ++ rest) (joined-some ls rest h) e ∙ b)
     next-of more e (goes last a c) =
         let z : n + 1 + length ls ≡ n + suc (length ls) = omega arith in
         goes last (read-next g n l (ls ++ rest) (joined-some ls rest h) e ∙ a ∙ ap (λ (k : ℕ). readLines last k rest) z) (λ k. let s = line-counts g l e in c (omega arith))
 
     by : (s : Step) → add g (recordOf l) ≡ s → ((more : Graph) → Prefix more (n + 1) ls rest) → Prefix g n (l ∷ ls) rest
     by (fault f) e ih =
-        stops f n (read-some g n l (ls ++ ([] ∷ [])) (joined-some ls ([] ∷ []) none) e) (read-some g n l (ls ++ rest) (joined-some ls rest h) e)
+        stops f n (omega arith) (read-some g n l (ls ++ ([] ∷ [])) (joined-some ls ([] ∷ []) none) e) (read-some g n l (ls ++ rest) (joined-some ls rest h) e)
     by (went more) e ih = next-of more e (ih more)
 
 ended-mode : (g : Graph) {last : Graph} → finished g ≡ accepted last → last .mode ≡ g .mode
@@ -311,7 +312,7 @@ module _ {text before : Bytes} (rest : Bytes) (starts : StartsLine before) (byte
   rest-refused f h {r} e = by (prefix nothing 1 (its .ls) (split 10 rest) (split-some 10 rest))
     where
       by : Prefix nothing 1 (its .ls) (split 10 rest) → RefusedAfter before (faultNumber f) r
-      by (stops k m a b) = earlier k m (short-lines before before-short ∙ ap (readLines nothing 1) (its .alone) ∙ a) (refused-outcome text (read ∙ b) e)
+      by (stops k m s a b) = earlier k m (omega (arith, s, its .count)) (short-lines before before-short ∙ ap (readLines nothing 1) (its .alone) ∙ a) (refused-outcome text (read ∙ b) e)
       by (goes more a c) =
           let n : 1 + length (its .ls) ≡ breaks before + 1 = omega (arith, its .count) in
           here (FaultyLine f (1 + length (its .ls))) (refused-outcome text (read ∙ a ∙ h more (1 + length (its .ls)) (λ k. c (omega arith))) e) (numbered f n)

@@ -14,7 +14,7 @@ use Rattle.graph.specs.Pieces.{split, lookUp}
 use Rattle.graph.specs.Records.{Record, shapeless, mode, signal, constant, vertex, edge, recordOf}
 use Rattle.graph.specs.Reading.{Step, fault, went, modeLines, addSignal, addConstant, addVertex, edgeOf, namesOf, unlessFaulty, judgeEdge, addEdge, add, refused, accepted, finished, readLines, nothing, graphOf}
 use Rattle.graph.specs.ModeClaims.{ModeWord, ModeLine, FirstLine, Moved}
-use Rattle.graph.specs.Claims.StartsLine.{first}
+use Rattle.text.specs.Lines.StartsLine.{first}
 use Rattle.graph.specs.ModeClaims.FirstLine.{says, silent}
 use Rattle.graph.specs.ModeClaims.Moved.{taken, later, vertexless}
 use Rattle.graph.specs.Private.Steps.{recordsOf}

@@ -1,5 +1,5 @@
--- What the contract of read_graph claims of an accepted text: its graph keeps to the limits, its names and formulas
--- stand where the checked graph says, its vertices and names are known, and each formula is of the grammar and
+-- What the contract of read_graph claims of an accepted text: its graph keeps to the limits, its names, marks and
+-- formulas stand where the checked graph says, an edge's on its own line, its vertices and names are known, and each formula is of the grammar and
 -- at most 16 deep. Assumes nothing.
 use Prim.Native.Nat.{ℕ, _+_, _-_, _≤_, _<_}
 use Prim.Native.Char.{code}
@@ -8,6 +8,7 @@ use mathlib.Core.Bool.{Bool, true, cond}
 use mathlib.Core.List.{List, [], _∷_, _++_, map}
 use lib.Dec.{eqb}
 use lib.ListN.{length, getD, take, drop}
+use Rattle.text.specs.Lines.{StartsLine}
 use Rattle.formula.specs.Grammar.{Tree, tree, treeOf, depthOf}
 use Rattle.assertion.specs.Graph.{Bytes, Expr, Edge, Graph, isTerminal}
 use Rattle.graph.specs.Pieces.{pieceAt}
@@ -32,11 +33,6 @@ pub record FormulaSound (ss cs : List Bytes) (s : Bytes) (x : Expr) : Type 0 whe
 abbrev pub breaks : Bytes → ℕ
 breaks [] = 0
 breaks (b ∷ s) = cond (eqb b (code "\n")) 1 0 + breaks s
-
--- a line may start after these bytes: there are none, or the last is LF
-pub data StartsLine (before : Bytes) : Type 0 where
-  first : before ≡ [] → StartsLine before
-  next : (lines : Bytes) → before ≡ lines ++ (code "\n" ∷ []) → StartsLine before
 
 -- within a line a field ends before its tab
 pub record IsField (field : Bytes) : Type 0 where
@@ -84,7 +80,8 @@ pub record Sound (text : Bytes) (graph : Graph) : Type 0 where
   pub name-at : (i : ℕ) (d : Bytes) → i < length (graph .signals) + length (graph .constants) → pieceAt 10 text (getD (heldOf text graph .names) i 0) ≡ getD (namesOf graph) i d
   pub point-at : (i : ℕ) (d : Bytes) → i < length (graph .vertices) → pieceAt 10 text (getD (heldOf text graph .points) i 0) ≡ getD (graph .vertices) i d
   pub edge-at : (i : ℕ) (d : Edge) → i < length (graph .edges) → EdgeSound text (graph .signals) (graph .constants) (graph .vertices) (isTerminal graph (getD (graph .edges) i d)) (getD (heldOf text graph .arcs) i noArc) (getD (graph .edges) i d)
-  -- the edges are the last lines, in order: from an antecedent on there are as many LF as edges are left, its own counted
+  -- the edges are the last lines, in order: an antecedent stands behind `E`, two fields and the mark, and from it on
+  -- there are as many LF as edges are left, its own counted
   pub edge-line : (i : ℕ) → i < length (graph .edges) → EdgeLine text (getD (heldOf text graph .arcs) i noArc .left)
   pub own-line : (i : ℕ) → i < length (graph .edges) → breaks (drop (getD (heldOf text graph .arcs) i noArc .left) text) ≡ length (graph .edges) - i
 

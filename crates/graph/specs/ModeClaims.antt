@@ -1,6 +1,6 @@
 -- What the contract of read_graph claims of `M` lines and terminal edges, by the bytes of the text. `graphOf` stands
--- here for the graph of a text, or its refusal, where two texts are compared and where the answer is tied to the graph
--- of which the other theorems speak; how it reads an `M` line or a mark is not used. Assumes nothing.
+-- here for the graph of a text, or its refusal, where two texts are compared and where the answer is tied, by `heldOf`
+-- too, to the graph of which the other theorems speak; how it reads an `M` line or a mark is not used. Assumes nothing.
 use Prim.Native.Nat.{ℕ, _+_, _-_, _≤_, _<_}
 use Prim.Native.Char.{code}
 use mathlib.Core.Path.{_≡_}
@@ -8,12 +8,13 @@ use mathlib.Core.Logic.{_⊎_}
 use mathlib.Core.Bool.{true}
 use mathlib.Core.List.{[], _∷_, _++_}
 use lib.ListN.{length, getD, drop}
+use Rattle.text.specs.Lines.{StartsLine}
 use Rattle.assertion.specs.Graph.{Bytes, Graph}
 use Rattle.assertion.specs.declared.Mode.{Mode}
 use Rattle.assertion.specs.declared.Mode.the-variants.{Unsaid, Terminal, Strong}
 use Rattle.graph.specs.Reading.{Outcome, refused, accepted, refusalOf, graphOf}
 use Rattle.graph.specs.Held.{noArc, heldOf}
-use Rattle.graph.specs.Claims.{breaks, StartsLine, IsField, EdgeLine}
+use Rattle.graph.specs.Claims.{breaks, IsField, EdgeLine}
 use Rattle.graph.specs.declared.Fault.{Fault}
 use Rattle.graph.specs.declared.Cause.{Cause}
 use Rattle.graph.specs.declared.Cause.the-variants.{FaultyLine, NoVertex}
@@ -38,11 +39,11 @@ pub data FirstLine (text : Bytes) : Mode → Type 0 where
   says : (word after : Bytes) (m : Mode) → ModeWord word m → ModeLine text [] word after → FirstLine text m
   silent : ((word after : Bytes) → ModeLine text [] word after → ⊥) → FirstLine text Unsaid
 
--- the answer refuses the line after these bytes with this number, unless these bytes by themselves are refused for a
--- line of theirs: then it refuses that
+-- the answer refuses the line after these bytes with this number; or these bytes by themselves are refused for one of
+-- their lines, and the answer refuses that line alike
 pub data RefusedAfter (before : Bytes) (number : ℕ) (r : GraphRead) : Type 0 where
   here : (cause : Cause) → r .outcome ≡ Refused cause → refusalOf cause ≡ record { number = number; line = breaks before + 1 } → RefusedAfter before number r
-  earlier : (f : Fault) (n : ℕ) → graphOf before ≡ refused (FaultyLine f n) → r .outcome ≡ Refused (FaultyLine f n) → RefusedAfter before number r
+  earlier : (f : Fault) (n : ℕ) → n ≤ breaks before → graphOf before ≡ refused (FaultyLine f n) → r .outcome ≡ Refused (FaultyLine f n) → RefusedAfter before number r
 
 -- the outcome of a text with an `M` line before it: no other line is judged otherwise, and it counts as a line
 pub data Moved (m : Mode) : Outcome → Outcome → Type 0 where
@@ -101,7 +102,7 @@ pub record ModeMeans (text : Bytes) (r : GraphRead) : Type 0 where
   -- "Another `M` line is 3; another word is 2"
   pub another : (before word after : Bytes) (m : Mode) → ModeLine text before word after → ModeWord word m → (before ≡ [] → ⊥) → length text ≤ 32768 → RefusedAfter before 3 r
   pub other-word : (before word after : Bytes) → ModeLine text before word after → ((m : Mode) → ModeWord word m → ⊥) → length text ≤ 32768 → RefusedAfter before 2 r
-  -- no word, and no LF
+  -- no word; and a last line that begins with `M` and has no LF
   pub no-word : (before after : Bytes) → StartsLine before → text ≡ before ++ (code "M" ∷ code "\n" ∷ after) → length text ≤ 32768 → RefusedAfter before 2 r
   pub no-lf : (before rest : Bytes) → StartsLine before → text ≡ before ++ (code "M" ∷ rest) → ((left right : Bytes) → rest ≡ left ++ (code "\n" ∷ right) → ⊥) → length text ≤ 32768 → RefusedAfter before 2 r
   -- a mark never decides what is refused

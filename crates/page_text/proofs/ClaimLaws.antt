@@ -10,8 +10,9 @@ use lib.Dec.{eqb}
 use lib.ListN.{length, getD, take, drop, length-take, length-append, drop-of-length-le}
 use lib.Seq.{take-length, take-at, drop-append-add}
 use Rattle.page_text.specs.Parts.{bytesBefore, graphLength, graphPart, tracePart}
-use Rattle.page_text.specs.Claims.{StartsLine, MarkedAt, Parts}
-use Rattle.page_text.specs.Claims.StartsLine.{first, next}
+use Rattle.text.specs.Lines.{StartsLine}
+use Rattle.page_text.specs.Claims.{MarkedAt, Parts}
+use Rattle.text.specs.Lines.StartsLine.{first, next}
 use Rattle.page_text.specs.Claims.Parts.{cut, none}
 
 -- ---- what is left of an input, of which it is told whether a line starts with it

@@ -5,11 +5,7 @@ use mathlib.Core.List.{List, [], _∷_, _++_}
 use Prim.Native.Nat.{ℕ, _≤_}
 use Prim.Native.Char.{code}
 use lib.ListN.{length}
-
--- a line may start after these bytes: there are none, or the last is LF
-pub data StartsLine (before : List ℕ) : Type 0 where
-  first : before ≡ [] → StartsLine before
-  next : (lines : List ℕ) → before ≡ lines ++ (code "\n" ∷ []) → StartsLine before
+use Rattle.text.specs.Lines.{StartsLine}
 
 -- after these bytes stands a line `T`, with its LF, and after that the others
 pub record MarkedAt (rest before after : List ℕ) : Type 0 where

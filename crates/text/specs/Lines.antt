@@ -1,6 +1,8 @@
 -- Lines of a text. A line ends with its LF, byte 10. Assumes nothing.
+use mathlib.Core.Path.{_≡_}
 use mathlib.Core.Bool.{true, false}
-use mathlib.Core.List.{List, [], _∷_}
+use mathlib.Core.List.{List, [], _∷_, _++_}
+use Prim.Native.Char.{code}
 use Prim.Native.Nat.{ℕ, suc, _+_}
 use lib.Dec.{eqb, ltb}
 use lib.ListN.{length, drop}
@@ -20,3 +22,8 @@ lineEnd s p = p + toLf (drop p s)
 unfoldable pub lineAt : List ℕ → ℕ → Line
 lineAt s p =
     elim (ltb p (length s)) [ true ↦ elim (ltb (lineEnd s p) (length s)) [ true ↦ Ended (lineEnd s p) | false ↦ Unended ] | false ↦ End ]
+
+-- a line may start after these bytes: there are none, or the last is LF
+pub data StartsLine (before : List ℕ) : Type 0 where
+  first : before ≡ [] → StartsLine before
+  next : (lines : List ℕ) → before ≡ lines ++ (code "\n" ∷ []) → StartsLine before

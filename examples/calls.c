@@ -1,6 +1,6 @@
 /* Ludopoplar from C: builds the monitor of a small graph, writes its AIGER file and reads it back, runs a
-   trace on it, tells its rejections in a million, shows what a graph without marks means, and a refusal. At the
-   repository's root:
+   trace on it, tells its rejections in a million, shows what a graph without marks means, signals of several
+   wires, and two refusals. At the repository's root:
 
      cc -std=c99 -Iinclude -o calls examples/calls.c target/staticlib/libludopoplar.a && ./calls */
 #include <inttypes.h>
@@ -14,6 +14,11 @@ static const char graph[] = "S\tp\nS\tq\nV\ta\nV\tb\nE\ta\tb\tt\tp\tq\n";
 
 /* the same and a loop on b; no edge has mark t */
 #define UNMARKED "S\tp\nS\tq\nV\ta\nV\tb\nE\ta\tb\t-\tp\tq\nE\tb\tb\t-\tp\t1\n"
+
+/* in a pull the handle's counter and the one that is shown, eight wires each, must be alike */
+#define HANDLE "S\tpull\nS\thandle\t8\nS\tshown\t8\nV\ta\n"
+#define ALIKE HANDLE "E\ta\ta\tt\tpull\thandle==shown\n"
+#define UNEQUAL HANDLE "E\ta\ta\tt\tpull\thandle==pull\n"
 
 /* a cycle a line: init, p, q */
 static const char trace[] = "110\n111\n010\n";
@@ -34,14 +39,14 @@ static int accepted(const char *call, uint64_t code) {
 
 static const uint8_t *bytes(const char *text) { return (const uint8_t *)text; }
 
-/* Judges one cycle, init with p and without q. */
-static int judge(const char *label, const char *text) {
+/* Judges one cycle. */
+static int judge(const char *label, const char *text, const char *cycle) {
     uint64_t gates = 0, word = 0;
     uint32_t cycles = 0, rejected = 0;
 
     if (!accepted("build", ludo_build(bytes(text), strlen(text), net, LENGTH(net), &gates)) ||
         !accepted("start", ludo_start(net, LENGTH(net), latches, LENGTH(latches), &cycles, &rejected)) ||
-        !accepted("step", ludo_step(net, LENGTH(net), bytes("110"), 3, latches, LENGTH(latches),
+        !accepted("step", ludo_step(net, LENGTH(net), bytes(cycle), strlen(cycle), latches, LENGTH(latches),
                                     values, LENGTH(values), &cycles, &rejected, &word)))
         return 0;
     printf("%s: gates %" PRIu64 ", %s\n", label, gates, rejected == 0 ? "accepted" : "rejected");
@@ -80,10 +85,19 @@ int main(void) {
         return 1;
     printf("rejected in a million %" PRIu64 ", remainder %" PRIu64 "\n", whole, remainder);
 
-    /* where no edge has mark t all are terminal, unless the first line is M terminal */
-    if (!judge("no mark", UNMARKED) || !judge("no mark, M strong", "M\tstrong\n" UNMARKED) ||
-        !judge("no mark, M terminal", "M\tterminal\n" UNMARKED))
+    /* where no edge has mark t all are terminal, unless the first line is M terminal; init and p without q */
+    if (!judge("no mark", UNMARKED, "110") || !judge("no mark, M strong", "M\tstrong\n" UNMARKED, "110") ||
+        !judge("no mark, M terminal", "M\tterminal\n" UNMARKED, "110"))
         return 1;
+
+    /* init, pull, then the wires of each counter, the lowest first */
+    if (!judge("eight wires, alike", ALIKE, "11" "10110100" "10110100") ||
+        !judge("eight wires, the highest unlike", ALIKE, "11" "10110100" "10110101") ||
+        !judge("one wire of each", HANDLE "E\ta\ta\tt\tpull\thandle[6]=shown[6]\n", "11" "10110100" "10110101"))
+        return 1;
+
+    /* widths that do not fit */
+    accepted("build", ludo_build(bytes(UNEQUAL), strlen(UNEQUAL), made, LENGTH(made), &gates));
 
     /* a vertex without a name */
     accepted("build", ludo_build(bytes("V\n"), 2, made, LENGTH(made), &gates));

@@ -22,10 +22,10 @@
       number  line   cause
         1     0      too long: graph over 32,768 bytes, AIGER over 65,536, trace over 1,048,576; session page:
                      more than 524,288 verdicts
-        2     its    graph: line of no record's shape, last line without LF, or M line with another word than
-                     terminal or strong
+        2     its    graph: line of no record's shape, last line without LF, width that is none of 1 to 16, or M
+                     line with another word than terminal or strong
         3     its    graph: kind of record out of order, or M line that is not the first line
-        4     its    graph: one record too many
+        4     its    graph: one record too many, or signal or constant with more bits than are left
         5     its    graph: name repeated
         6     its    graph: edge to or from an unknown vertex
         7     its    graph: formula of wrong form or length
@@ -39,15 +39,17 @@
        15     its    trace: wrong line, counted in its own trace; a step's cycle is line 1
        16     0      the numbers are no netlist
        17     0      the tally would pass 4,294,967,295
+       19     its    graph: in a formula, names of unequal widths compared, a bit beyond the width, or a name of
+                     several bits where one bit is due
        21     0      tally: no cycle, or more rejected than cycles
        22     0      session page: graph name not of 1 to 24 letters, digits or _, or a verdict above 1
        25     0      verdicts: not one byte for each line of their trace, or a byte above 1
        26     0      width of lines outside 1 to 64
 
-     Lines count from 1; the first faulty line decides, and in it the lower number. Build checks 1, the lines,
-     10, 11, 12; read 1, the lines, 12; write and start 16, 12; step 16, 15, 12, 17; run 1, then as step; per
-     million 21; broken check 1 of either trace, 26, 15 of the flywheel trace, 15 of the handle trace, 25;
-     session page 1, 22, 12.
+     Lines count from 1; the first faulty line decides, and in it the lower number, also where an edge's two
+     formulas have one each. Build checks 1, the lines, 10, 11, 12; read 1, the lines, 12; write and start 16,
+     12; step 16, 15, 12, 17; run 1, then as step; per million 21; broken check 1 of either trace, 26, 15 of the
+     flywheel trace, 15 of the handle trace, 25; session page 1, 22, 12.
 
    Netlist: uint16_t numbers, 5 + 2L + 1 + 2A of them, at most 8,194
      M I L O A               highest variable, inputs, latches, outputs, AND gates
@@ -80,15 +82,17 @@ extern "C" {
 
    The text has one record a line, each ended by LF, its fields parted by one tab, kinds in this order:
      M mode                                       first line or none; mode terminal or strong
-     S name                                       signal, 0 to 63
-     K name                                       constant bit, 0 to 6
+     S name width                                 signal, 0 to 63 bits in all
+     K name width                                 constant, 0 to 6 bits in all
      V name                                       vertex, 1 to 64; the first is the start
      E from to mark antecedent consequent         edge, 0 to 128; mark t or -
    Which edges are terminal is decided when the whole text is read. With no M line those with mark t are, or all
    where none has it; with M terminal those with mark t, even where there is none; with M strong all.
-   A name is a letter, then letters, digits or _, 1 to 15 bytes. A formula is 1 to 255 bytes without blanks:
-   names, 0, 1, ( ), and ! & ^ | = from tightest to loosest. Input 1 of the netlist is init, then come the
-   signals; each constant bit is an uninitialised latch. */
+   A name is a letter, then letters, digits or _, 1 to 15 bytes. A width is 1 to 16; without it a name has 1 bit.
+   A formula is 1 to 255 bytes without blanks: names of one bit, 0, 1, ( ), and ! & ^ | = from tightest to
+   loosest; name[n] is bit n of a name, from 0 on, and left==right, which stands as one operand, holds where two
+   names of equal width have all bits alike. Input 1 of the netlist is init, then come the bits of the signals,
+   each signal's bit 0 first; each bit of a constant is an uninitialised latch. */
 uint64_t ludo_build(const uint8_t *graph, size_t graph_len, uint16_t *net, size_t net_len, uint64_t *gates);
 
 /* Writes the AIGER ASCII file of a netlist into `text`; `*length` is its number of bytes, at most 65,536. */

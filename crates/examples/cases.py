@@ -1,7 +1,7 @@
 #!/usr/bin/env python3
 """Writes stdin and stdout of the program examples beside this file: document 01's bench examples of graphs,
-the gates of graphs by which edges are terminal (document 02, No. 5), and examples of AIGER files, each with its answer.
-The answers are written here by hand; nothing is computed by the program.
+the gates of graphs by which edges are terminal (document 02, No. 5) and by widths (No. 3), and examples of AIGER files,
+each with its answer. The answers are written here by hand; nothing is computed by the program.
 
 An example in stdin is five fields, each a line with its length and then that many bytes: name, text, the text when it is
 written again where that differs, trace, answer. In stdout it is a line: name, answer and `ok`, parted by tabs."""
@@ -80,6 +80,35 @@ sides = ["1" + "^0" * n for n in [127] * 10 + [71]] + ["0&0&0"]
 over = lines("V a", *[f"E a a - {sides[k]} {sides[k + 1]}" for k in range(0, 12, 2)])
 graph("4,096 variables, no edge marked", over, "refused 11 0")
 graph("M terminal, 4,091 variables", lines("M terminal") + over, "4078 gates")
+
+# ---- gates by widths: document 02, No. 3. A number after a graph is its number among the request's worked cases. One edge
+# on one vertex costs 8, and `==` 4 for each bit, less 1.
+def wide(antecedent, consequent="1"):
+    return lines("S a 4", "S b 4", "S c 2", "S p", "K k 4", "K j 2", "V v", f"E v v t {antecedent} {consequent}")
+
+
+graph("a bit", wide("a[0]"), "8 gates")  # 1
+graph("bit 0 of one", wide("p[0]", "p"), "8 gates")  # 2
+graph("== of 4 bits", wide("a==b"), "23 gates")  # 3
+graph("not of ==", wide("!a==b"), "23 gates")  # 4
+graph("== and =", wide("a==b=p"), "26 gates")  # 5
+graph("three times ==", wide("a==b&c==j", "k==a"), "46 gates")  # 6
+graph("= of bits, == with itself", wide("a[3]=b[3]", "a==a"), "26 gates")  # 7
+graph("16 nots of ==", wide("!" * 16 + "a==b"), "23 gates")  # 8
+graph("63 bits", lines("S x 16", "S y 16", "S z 16", "S w 15", "V v"), "0 gates")  # 28
+graph("== of one bit", lines("S p", "S q", "V v", "E v v t p==q 1"), "11 gates")
+# 63 times `==` of 16 bits and 61 times `&` between them, one `&` more and 7 times `^`: 8 + 3,969 + 61 + 1 + 21 gates, 33
+# inputs and 2 latches are 4,095 variables
+left, right = ("&".join(["a==b"] * n) for n in (51, 12))
+
+
+def sixteen(more):
+    return lines("S a 16", "S b 16", "V v", f"E v v t {left} {right}{more}" + "^1" * 7)
+
+
+graph("4,095 variables by ==", sixteen("&1"), "4060 gates")
+graph("4,096 variables by ==", sixteen("&1&1"), "refused 11 0")
+graph("a wide name", lines("S a 2", "V v", "E v v t a 1"), "refused 19 3")
 
 # ---- the examples of "The AIGER And-Inverter Graph Format". Within the subset: one output, inputs, M = I + L + A,
 # variables in order, larger operand first, nothing after the last gate.

@@ -1,10 +1,11 @@
 #!/usr/bin/env python3
 """Writes stdin and stdout of the program graph_cases beside this file: graph texts, each with what document 01
-says of it, and document 02, No. 5, of its line `M`. What is expected is written here by hand, case by case; nothing is
-computed from the reader.
+says of it, and document 02 of its line `M` (No. 5) and of widths (No. 3). What is expected is written here by hand, case
+by case; nothing is computed from the reader.
 
 A case in stdin is a line `LENGTH<tab>LABEL` and then that many bytes. In stdout it is a line `LABEL`, and `ok` with
-the numbers of signals, constants, vertices and edges, or `refused` with number and line, parted by tabs."""
+the bits of signals and of constants and the numbers of vertices and edges, or `refused` with number and line, parted by
+tabs."""
 import os
 
 here = os.path.dirname(os.path.abspath(__file__))
@@ -235,6 +236,188 @@ refused("M strong, mark of another byte", lines("M strong", "V a", "E a a x 1 1"
 refused("M strong, empty mark", lines("M strong", "V a") + b"E\ta\ta\t\t1\t1\n", 2, 3)
 refused("M, then a last line without LF", lines("M strong", "V a") + b"V\tb", 2, 3)
 refused("M, then an unknown name", lines("M terminal", "V a", "E a a - p 1"), 9, 3)
+
+# ---- document 02, No. 3: widths. A number after a case is its number among the request's worked cases.
+H = ["S a 4", "S b 4", "S c 2", "S p", "K k 4", "K j 2", "V v"]
+SHORT = ["S a 4", "S p", "K k 4", "V v"]
+
+
+def wide(head, left, right="1"):
+    """A graph whose one edge, after the head, has these formulas."""
+    return lines(*head) + f"E\tv\tv\tt\t{left}\t{right}\n".encode()
+
+
+def ok_h(*formulas):
+    ok(" / ".join(formulas), wide(H, *formulas), 11, 6, 1, 1)
+
+
+def refused_h(number, *formulas):
+    refused(f"{number}: " + " / ".join(formulas), wide(H, *formulas), number, 8)
+
+
+def ok_short(*formulas):
+    ok(" / ".join(formulas), wide(SHORT, *formulas), 5, 4, 1, 1)
+
+
+def refused_short(number, *formulas):
+    refused(f"{number}: " + " / ".join(formulas), wide(SHORT, *formulas), number, 5)
+
+
+NOTS = "!" * 16
+ok_h("a[0]")  # 1
+ok_h("p[0]", "p")  # 2
+ok_h("a==b")  # 3
+ok_h("!a==b")  # 4
+ok_h("a==b=p")  # 5
+ok_h("a==b&c==j", "k==a")  # 6
+ok_h("a[3]=b[3]", "a==a")  # 7
+ok_h(NOTS + "a==b")  # 8
+refused_h(7, "a[0]==b")  # 9
+refused_h(7, "a==b==k")  # 10
+refused_h(7, "a==1")  # 11
+refused_h(7, "a[00]")  # 12
+refused_h(19, "a[4]")  # 13
+refused_h(19, "a[99999999999999999999]")  # 14
+refused_h(19, "p[1]")  # 15
+refused_h(19, "a")  # 16
+refused_h(19, "a=b")  # 17
+refused_h(19, "a==c")  # 18
+refused_h(9, "a[4]&z")  # 19
+refused_h(9, "a==c", "z")  # 20
+refused_h(7, "a", "(")  # 21
+refused_h(8, NOTS + "!p", "a")  # 22
+refused("width 17", lines("S x 17", "V v"), 2, 1)  # 23
+refused("width 0", lines("S x 0", "V v"), 2, 1)  # 23
+refused("width 01", lines("S x 01", "V v"), 2, 1)  # 23
+refused("empty width", lines("S x ", "V v"), 2, 1)  # 23
+refused("width of a vertex", lines("V v 1"), 2, 1)  # 24
+refused("4: a constant of 7 bits", lines("K x 7", "V v"), 4, 1)  # 25
+refused("constant, width 17", lines("K x 17", "V v"), 2, 1)  # 26
+refused("4: 7 bits of constants", lines("K x 6", "K y", "V v"), 4, 2)  # 27
+THREE = ["S x 16", "S y 16", "S z 16"]
+ok("63 bits of signals", lines(*THREE, "S w 15", "V v"), 63, 0, 1, 0)  # 28
+refused("4: 64 bits of signals", lines(*THREE, "S w 16", "V v"), 4, 4)  # 29
+refused("4 before 5, by bits", lines(*THREE, "S x 16", "V v"), 4, 4)  # 30
+refused("5: repeated, up to 63 bits", lines(*THREE, "S x 15", "V v"), 5, 4)  # 31
+refused("2 before 3, by width", lines("K x 2", "S y 17", "V v"), 2, 2)  # 32
+refused("3: wide signal after a constant", lines("K x 2", "S y 16", "V v"), 3, 2)  # 33
+ok("two signals of 3 bits", lines("S a 3", "S b 3", "V v", "E v v t a==b 1"), 6, 0, 1, 1)  # 34
+ok("signal and constant of 2 bits", lines("S a 2", "K k 2", "V v", "E v v t a==k k[1]"), 2, 2, 1, 1)  # 35
+ok("constant of 2 bits", lines("K k 2", "V v", "E v v t k[1] k[0]"), 0, 2, 1, 1)  # 36
+
+# a width is 1 to 16, in just these bytes, also where a number would wrap
+ok("width 1", lines("S x 1", "V v"), 1, 0, 1, 0)
+ok("width 10", lines("S x 10", "V v"), 10, 0, 1, 0)
+ok("width 16", lines("S x 16", "V v"), 16, 0, 1, 0)
+ok("constant, width 6", lines("K x 6", "V v"), 0, 6, 1, 0)
+for width in ("160", "257", "65537", "4294967297", "18446744073709551617"):
+    refused(f"width {width}", lines(f"S x {width}", "V v"), 2, 1)
+for width in ("00", "016", "-1", "+1", " 1", "1 ", "1a", "a", "[1]", "1\r"):
+    refused(f"width {width!r}", f"S\tx\t{width}\nV\tv\n".encode(), 2, 1)
+for width in ("0", "01", "", "257"):
+    refused(f"constant, width {width!r}", lines(f"K x {width}", "V v"), 2, 1)
+refused("a fourth field", lines("S x 4 1", "V v"), 2, 1)
+refused("an empty fourth field", lines("S x 4 ", "V v"), 2, 1)
+refused("constant, a fourth field", lines("K x 4 1", "V v"), 2, 1)
+refused("tab doubled before a width", lines("S x  4", "V v"), 2, 1)
+refused("blank before a width", b"S\tx 4\nV\tv\n", 2, 1)
+refused("no name, but a width", lines("S  4", "V v"), 2, 1)
+refused("width without LF", lines("V v") + b"S\tx\t4", 2, 2)
+refused("empty width of a vertex", lines("V v "), 2, 1)
+refused("name with a bit", lines("S x[0]", "V v"), 2, 1)
+ok("15 bytes and a width", lines("S " + "s" * 15 + " 16", "V v"), 16, 0, 1, 0)
+refused("16 bytes and a width", lines("S " + "s" * 16 + " 16", "V v"), 2, 1)
+refused("M, then width 17", lines("M strong", "S x 17", "V v"), 2, 2)
+refused("10: widths, no vertex", lines("S x 4", "K y 2"), 10, 0)
+
+# totals are bits, of signals and of constants apart
+ONES = [f"S s{i}" for i in range(15)]
+ok("63 bits in 18 signals", lines(*THREE, *ONES, "V v"), 63, 0, 1, 0)
+refused("4: 64 bits in 19 signals", lines(*THREE, *ONES, "S t"), 4, 19)
+ok("63 and 6 bits", lines(*THREE, "S w 15", "K k 6", "V v"), 63, 6, 1, 0)
+ok("6 bits in two constants", lines("K x 4", "K y 2", "V v"), 0, 6, 1, 0)
+refused("4: two bits where one is left", lines("K x 5", "K y 2", "V v"), 4, 2)
+refused("4: a constant of 16 bits", lines("K x 16", "V v"), 4, 1)
+refused("4 before 5, constants by bits", lines("K x 3", "K x 4", "V v"), 4, 2)
+refused("5: constant repeated, 6 bits", lines("K x 3", "K x 3", "V v"), 5, 2)
+refused("3 before 4, by bits", lines("V v", "K x 7"), 3, 2)
+
+# a width is no part of the name
+refused("5: repeated with another width", lines("S x 2", "S x 3", "V v"), 5, 2)
+refused("5: repeated without its width", lines("S x 2", "S x", "V v"), 5, 2)
+refused("5: wide constant with a signal's name", lines("S x 2", "K x 2", "V v"), 5, 2)
+ok("one name begins another", lines("S ab 2", "S a", "V v", "E v v t a ab[1]"), 3, 0, 1, 1)
+ok("wide signal with a vertex's name", lines("S v 2", "V v", "E v v t v[1] v[0]"), 2, 0, 1, 1)
+
+# name[n]
+for f in ("a[3]", "k[3]", "p[0]=p", "a[0]&!a[1]|a[2]^k[3]", "(a[3])"):
+    ok_short(f)
+for f in ("a[01]", "a[]", "a[", "a[0", "a]", "[0]", "a[p]", "a[ 0]", "a [0]", "a[-1]", "a[[0]]", "a[0]]", "a\\0]"):
+    refused_short(7, f)
+for f in ("a[0][0]", "1[0]", "(a)[0]", "(a==k)[0]", "a[0]p", "a[0](p)", "z[00]"):
+    refused_short(7, f)
+refused_short(7, "1", "p[")
+refused_short(7, "1", "p[0")
+for n in (10, 16, 256, 65536, 2**32, 2**64, 2**128):
+    refused_short(19, f"a[{n}]")
+refused_short(19, "k[4]")
+refused_short(19, "p[256]")
+ok("bit 15", lines("S w 16", "V v", "E v v t w[15] 1"), 16, 0, 1, 1)
+refused("19: bit 16", lines("S w 16", "V v", "E v v t w[16] 1"), 19, 3)
+ok("bit 5 of a constant", lines("K k 6", "V v", "E v v t k[5] 1"), 0, 6, 1, 1)
+refused("19: bit 6 of a constant", lines("K k 6", "V v", "E v v t 1 k[6]"), 19, 3)
+ok("bits beside Z and ^", lines("S Z 2", "V v", "E v v t Z[1]^Z[0] 1"), 2, 0, 1, 1)
+
+# left==right
+for f in ("p=a==k", "p==p", "p==p=p", "p=p==p", "!(a==k)", "a==k|k==a=p"):
+    ok_short(f)
+ok("p==q", formula(b"p==q"), 2, 1, 1, 1)
+ok("p==k", formula(b"p==k"), 2, 1, 1, 1)
+for f in ("a==", "==a", "a=", "a==!k", "(a)==k", "a==(k)", "1==a", "a===k", "a==k==a", "p==p==p", "a==k[0]", "a[0]==k[0]"):
+    refused_short(7, f)
+for f in ("p[0]==p", "a==k=", "a= =k", "a!=k", "a==k!", "a==k(p)", "(a==k", "a[0==k]"):
+    refused_short(7, f)
+refused_short(7, "1", "p==")
+refused_short(7, "1", "p=")
+for f in ("a==p", "p==a", "a==k&p==k"):
+    refused_short(19, f)
+LEFT, RIGHT = "s" * 15, "t" * 15
+NAMED = [f"S {LEFT} 2", f"S {RIGHT} 2", "V v"]
+ok("15 bytes around ==", lines(*NAMED, f"E v v t {LEFT}=={RIGHT} {LEFT}[1]"), 4, 0, 1, 1)
+refused("7: 16 bytes before ==", lines(*NAMED, f"E v v t {LEFT}s=={RIGHT} 1"), 7, 4)
+refused("7: 16 bytes after ==", lines(*NAMED, f"E v v t {LEFT}=={RIGHT}t 1"), 7, 4)
+refused("7: 16 bytes before [", lines(*NAMED, f"E v v t {LEFT}s[0] 1"), 7, 4)
+
+# a wide name where one bit is due
+for f in ("!a", "(a)", "a&p", "p|a", "p^k", "a=k", "a==k=a"):
+    refused_short(19, f)
+refused_short(19, "1", "a")
+
+# two faults: over both formulas 6, 7, 8, 9 and then 19; and the first faulty line
+refused_short(9, "a[4]", "z")
+refused_short(9, "a", "z")
+refused_short(9, "z", "a")
+refused_short(9, "z[9]")
+refused_short(9, "z==a")
+refused_short(9, "a==z")
+refused_short(9, "v[0]")
+refused_short(8, "a", NOTS + "!z")
+refused_short(8, NOTS + "!a")
+refused_short(7, "a", "a[00]")
+refused("6 before 19", lines(*SHORT, "E v x t a 1"), 6, 5)
+refused("19 in line 5, 2 in line 6", lines(*SHORT, "E v v t a 1", "X"), 19, 5)
+refused("M, then 19", lines("M strong", *SHORT, "E v v t a 1"), 19, 6)
+
+# depth and length
+ok_short("(" * 16 + "a==k" + ")" * 16)
+ok_short(NOTS + "a[3]")
+refused_short(8, NOTS + "!a==k")
+refused_short(8, NOTS + "!a[3]")
+FIFTY = "&a==k" * 50
+ok("255 bytes with ==", wide(SHORT, "!a==k" + FIFTY), 5, 4, 1, 1)
+refused("256 bytes with ==", wide(SHORT, "!!a==k" + FIFTY), 7, 5)
+refused("255 bytes up to ==", wide(SHORT, "p&" + FIFTY[1:] + "&p=="), 7, 5)
+refused("19: n of 252 digits", wide(SHORT, "a[1" + "0" * 251 + "]"), 19, 5)
 
 with open(os.path.join(here, "stdin"), "wb") as f:
     for label, text, _ in cases:

@@ -1,7 +1,7 @@
 #!/usr/bin/env python3
 """Writes stdin and stdout of the program page_cases beside this file: inputs of monitor and graph2aiger, each with the
-page that document 01 asks for, with the verdict and the terminal edges of document 02 (No. 2 and 5). The pages are
-written here by hand, case by case; nothing is computed by the programs.
+page that document 01 asks for, with the verdict, the widths and the terminal edges of document 02 (No. 2, 3 and 5). The
+pages are written here by hand or worked out from the documents, case by case; nothing is computed by the programs.
 
 A case in stdin is a line `LENGTH<tab>LABEL` and then that many bytes; a label starts with `m` for the monitor's page
 and `a` for AIGER's. In stdout it is the label's line and then the page."""
@@ -268,6 +268,115 @@ aiger(
     lines("M strong", "S M", "V M", "E M M - M M"),
     "aag 12 2 2 1 8, 2, 4, 6 18, 8 25, 24, 10 6 3, 12 8 3, 14 11 3, 16 15 4, 18 16 4, 20 16 5, 22 12 4, 24 23 21",
 )  # 27
+
+# ---- widths: document 02, No. 3. A number after a case is its number among the request's worked cases; those that are
+# refused stand in crates/graph_cases/cases.py, the gates of 1 to 8 in crates/examples/cases.py.
+H = ["S a 4", "S b 4", "S c 2", "S p", "K k 4", "K j 2", "V v"]
+PAIR = ["S a 2", "S b 2", "V v"]
+FOUR = ["S x 16", "S y 16", "S z 16", "S w 15", "V v"]
+monitor(
+    "equal to a constant",
+    lines("S a 2", "K k 2", "V v", "E v v t a==k k[1]", "T", "100", "110", "101", "111"),
+    "R 1", "R 2", "sum 4 2 rejected",
+)  # 35
+# bit 0 stands first in a cycle; `==` and `[n]` mean the same bits of a constant
+monitor("bits of a cycle", lines("S a 2", "V v", "E v v t a[0] a[1]", "T", "110", "101", "111"), "R 1", "sum 3 1 rejected")
+last, others = "1" + "0" * 15 + "1", "1" + "1" * 15 + "0"
+monitor("bit 15", lines("S a 16", "V v", "E v v t a[15] 0", "T", last, others), "R 1", "sum 2 1 rejected")
+last, others = "1" + "0" * 62 + "1", "1" * 63 + "0"
+monitor("64 bytes a cycle", lines(*FOUR, "E v v t w[14] 0", "T", last, others), "R 1", "sum 2 1 rejected")
+wrong("a byte for each record", b"10000\n10\n", 2, ["S a 4", "V v"])
+wrong("a byte too many, 4 bits", b"10000\n100000\n", 2, ["S a 4", "V v"])
+ones = "&".join(f"k[{n}]" for n in range(6))
+monitor("six bits of a constant", lines("K k 6", "V v", f"E v v t {ones} 0", "T", "1"), "R 1", "sum 1 1 rejected")
+monitor("a constant's bit 5", lines("S a 6", "K k 6", "V v", "E v v t a==k k[5]", "T", "1100000", "1000001"), "R 1", "sum 2 1 rejected")
+monitor("one setting, two cycles", lines("K k 2", "V a", "V b", "E a b - k[1] 1", "E b b t !k[1] 0", "T", "1", "0"), "sum 2 0 accepted")
+# each bit counts, and no bit is compared with another's
+monitor(
+    "bit by bit",
+    lines("S a 4", "S b 4", "V v", "E v v t 1 a==b", "T")
+    + lines("100000000", "110000000", "101000000", "100100000", "100010000", "111111111", "110101010", "110100101", "100011000"),
+    "R 2", "R 3", "R 4", "R 5", "R 8", "R 9", "sum 9 6 rejected",
+)
+# !(a==b), and (a==b)=p
+monitor("not of ==", lines(*PAIR, "E v v t 1 !a==b", "T", "10101", "10110"), "R 1", "sum 2 1 rejected")
+monitor(
+    "== and then =",
+    lines("S a 2", "S b 2", "S p", "V v", "E v v t 1 a==b=p", "T", "100000", "100001", "110000", "110001"),
+    "R 1", "R 4", "sum 4 2 rejected",
+)
+refused("19: wide name", lines("S a 2", "V v", "E v v t a 1"), 19, 3)
+monitor("19 before a wrong cycle", lines("S a 2", "V v", "E v v t a[2] 1", "T", "2"), "refused 19 3")
+
+# the files: after the latches masked by init and the vertex, three gates a bit, then the joins
+aiger(
+    "== of 3 bits, 19 gates",
+    lines("S a 3", "S b 3", "V v", "E v v t a==b 1"),
+    "aag 28 7 2 1 19, 2, 4, 6, 8, 10, 12, 14, 16 50, 18 57, 56, 20 16 3, 22 18 3, 24 21 3,"
+    "26 10 4, 28 11 5, 30 29 27, 32 12 6, 34 13 7, 36 35 33, 38 14 8, 40 15 9, 42 41 39, 44 37 31, 46 44 43,"
+    "48 46 25, 50 48 1, 52 48 0, 54 46 22, 56 55 53",
+)  # 34
+aiger(
+    "bits of a constant",
+    lines("K k 2", "V v", "E v v t k[1] k[0]"),
+    "aag 13 1 4 1 8, 2, 4 4 4, 6 6 6, 8 20, 10 27, 26, 12 8 3, 14 10 3, 16 13 3, 18 17 6, 20 18 4, 22 18 5, 24 14 6, 26 25 23",
+)  # 36
+aiger("63 bits", lines(*FOUR), "aag 64 64 0 1 0," + ",".join(str(2 * n) for n in range(1, 65)) + ", 1")  # 28
+# eleven bits of signals, six of constants; and the first gates of one edge on one vertex
+inputs = "2, 4, 6, 8, 10, 12, 14, 16, 18, 20, 22, 24, 26 26 26, 28 28 28, 30 30 30, 32 32 32, 34 34 34, 36 36 36,"
+first = "42 38 3, 44 40 3, 46 43 3,"
+a_b = (
+    "48 12 4, 50 13 5, 52 51 49, 54 14 6, 56 15 7, 58 57 55, 60 16 8, 62 17 9, 64 63 61, 66 18 10, 68 19 11, 70 69 67,"
+    "72 59 53, 74 72 65, 76 74 71,"
+)
+aiger(
+    "a bit of a signal",
+    lines(*H, "E v v t a[0] 1"),
+    f"aag 28 12 8 1 8, {inputs} 38 50, 40 57, 56, {first} 48 47 4, 50 48 1, 52 48 0, 54 44 4, 56 55 53",
+)  # 1
+aiger(
+    "not of ==, 23 gates",
+    lines(*H, "E v v t !a==b 1"),
+    f"aag 43 12 8 1 23, {inputs} 38 80, 40 87, 86, {first} {a_b} 78 77 47, 80 78 1, 82 78 0, 84 77 44, 86 85 83",
+)  # 4
+aiger(
+    "three times ==, 46 gates",
+    lines(*H, "E v v t a==b&c==j k==a"),
+    f"aag 66 12 8 1 46, {inputs} 38 126, 40 133, 132, {first} {a_b}"
+    # c==j, and both of them
+    "78 34 20, 80 35 21, 82 81 79, 84 36 22, 86 37 23, 88 87 85, 90 89 83, 92 90 76,"
+    # k==a
+    "94 26 4, 96 27 5, 98 97 95, 100 28 6, 102 29 7, 104 103 101, 106 30 8, 108 31 9, 110 109 107, 112 32 10, 114 33 11,"
+    "116 115 113, 118 105 99, 120 118 111, 122 120 117,"
+    "124 92 47, 126 124 122, 128 124 123, 130 92 44, 132 131 129",
+)  # 6
+# two names of one bit: as `=`
+aiger(
+    "== of one bit, 11 gates",
+    lines("S p", "S q", "V v", "E v v t p==q 1"),
+    "aag 16 3 2 1 11, 2, 4, 6, 8 26, 10 33, 32, 12 8 3, 14 10 3, 16 13 3, 18 6 4, 20 7 5, 22 21 19, 24 23 17, 26 24 1, 28 24 0, 30 23 14, 32 31 29",
+)
+# bit n of a is 4 + 2n, of b 36 + 2n; its gates are 78, 80 and 82, and 6 more for each bit before it
+bits = [
+    f"{78 + 6 * n} {36 + 2 * n} {4 + 2 * n}, {80 + 6 * n} {37 + 2 * n} {5 + 2 * n}, {82 + 6 * n} {81 + 6 * n} {79 + 6 * n}"
+    for n in range(16)
+]
+joins = ["174 89 83"] + [f"{172 + 2 * n} {170 + 2 * n} {83 + 6 * n}" for n in range(2, 16)]
+aiger(
+    "== of 16 bits, 71 gates",
+    lines("S a 16", "S b 16", "V v", "E v v t a==b 1"),
+    "aag 106 33 2 1 71," + ",".join(str(2 * n) for n in range(1, 34)) + ", 68 206, 70 213, 212, 72 68 3, 74 70 3, 76 73 3,"
+    + ",".join(bits + joins) + ", 204 202 77, 206 204 1, 208 204 0, 210 202 74, 212 211 209",
+)
+
+# ---- 11 by `==`. In 254 bytes 51 times 16 bits: 51 x 63 gates and 50 that join them. 10 edges with it on both sides cost
+# 10 x 6,526 + 98, and one more, with 6 times `==` and 1, 383 + 10: in 16 bits that would be 215. 63 such edges ask for 411,766.
+SIXTEEN = ["S a 16", "S b 16", "V v"]
+many = "&".join(["a==b"] * 51)
+some = "&".join(["a==b"] * 6)
+assert len(many) == 254 and 10 * 6526 + 98 + 383 + 10 == 65536 + 215 and 63 * 6526 + 628 == 411766
+monitor("11: 65,751 gates", lines(*SIXTEEN, *[f"E v v t {many} {many}"] * 10, f"E v v t {some} 1"), "refused 11 0")
+monitor("11: 411,766 gates", lines(*SIXTEEN, *[f"E v v t {many} {many}"] * 63), "refused 11 0")
 
 with open(os.path.join(here, "stdin"), "wb") as f:
     for label, text, _ in cases:

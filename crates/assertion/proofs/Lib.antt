@@ -3,4 +3,5 @@ pub mod ListLaws
 pub mod TerminalLaws
 pub mod SinceLaws
 pub mod PathLaws
+pub mod AlikeLaws
 mod Examples

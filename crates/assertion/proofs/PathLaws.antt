@@ -7,10 +7,11 @@ use mathlib.Core.List.{List, [], _∷_, List·Memᴰ, List·Memᴰ·head, List·
 use lib.ListN.{length}
 use lib.Dec.{T}
 use Rattle.assertion.specs.Lists.{any, lists, From}
-use Rattle.assertion.specs.Graph.{Edge, Graph, Cycle, Setting}
+use Rattle.assertion.specs.Graph.{Edge, Graph, constantBits, Cycle, Setting, bitHolds, holds}
 use Rattle.assertion.specs.Paths.{sinceInit, leaves, endsTerminal, antecedentsTrue, consequentFalse, RejectingPath, Rejected, rejectsAlong, rejectedUnder, isRejected, PathsMean}
 use Rattle.assertion.proofs.ListLaws.{and-intro, and-left, and-right, lists-intro, lists-elim}
 use Rattle.assertion.proofs.TerminalLaws.{reason, for-reason}
+use Rattle.assertion.proofs.AlikeLaws.{alike-each}
 use Rattle.assertion.proofs.SinceLaws.{since-none, since-some}
 
 -- a setting is a list of the two bits
@@ -58,13 +59,13 @@ computed g cs = (there, back)
   where
     there : T (isRejected g cs) → Rejected g cs
     there t =
-        let r = lists-elim (λ σ. rejectedUnder g σ cs) (length (g .constants)) (false ∷ true ∷ []) t in
+        let r = lists-elim (λ σ. rejectedUnder g σ cs) (constantBits g) (false ∷ true ∷ []) t in
         let q = under g (r .0) cs .0 (r .3) in
         record { setting = r .0; a-bit-each = r .2; path = q .0; rejects = q .1 }
 
     back : Rejected g cs → T (isRejected g cs)
     back q =
-        lists-intro (λ σ. rejectedUnder g σ cs) (length (g .constants)) (false ∷ true ∷ []) (q .setting) (bits (q .setting)) (q .a-bit-each)
+        lists-intro (λ σ. rejectedUnder g σ cs) (constantBits g) (false ∷ true ∷ []) (q .setting) (bits (q .setting)) (q .a-bit-each)
         (under g (q .setting) cs .1 (q .path, q .rejects))
 
 passes : (b : Bool) → T b → b ≡ true
@@ -72,6 +73,7 @@ passes true t = refl
 passes false t = absurd t
 
 pub paths-mean : PathsMean
+unfolding bitHolds holds
 paths-mean =
     record {
       terminal = reason;
@@ -80,4 +82,8 @@ paths-mean =
       finds = λ g cs r. passes (isRejected g cs) (computed g cs .1 r);
       latest = since-some;
       before-init = since-none;
+      signal-bit = λ σ c i n. refl;
+      constant-bit = λ σ c j n. refl;
+      each-bit = λ σ c a b w. alike-each σ c a b w .0;
+      alike-bits = λ σ c a b w. alike-each σ c a b w .1;
     }

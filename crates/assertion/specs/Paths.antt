@@ -1,6 +1,6 @@
 -- What demand 3 counts: cycles that some setting and some rejecting path condemn. Nothing here knows of
 -- latches, gates, tokens or a tally. `T b` says that the test b passes. Assumes nothing.
-use Prim.Native.Nat.{ℕ, zero, suc, _+_}
+use Prim.Native.Nat.{ℕ, zero, suc, _+_, _<_}
 use mathlib.Core.Path.{_≡_}
 use mathlib.Core.Bool.{Bool, true, false, not, _&&_, _||_, cond}
 use mathlib.Core.List.{List, [], _∷_, _++_, List·Memᴰ}
@@ -8,7 +8,7 @@ use lib.ListN.{length}
 use lib.Dec.{T, eqb}
 use Rattle.assertion.specs.Lists.{any, lists, From}
 use Rattle.assertion.specs.declared.Mode.the-variants.{Unsaid, Strong}
-use Rattle.assertion.specs.Graph.{Edge, Graph, Cycle, Setting, isTerminal, isInit, holds}
+use Rattle.assertion.specs.Graph.{Run, signalsFrom, constantsFrom, Expr, signal, constant, alike, Edge, Graph, constantBits, Cycle, Setting, isTerminal, isInit, bitHolds, holds}
 
 -- ---- the latest init
 -- A cycle's latest init is the last cycle up to it, itself included, whose init is `1`. Of the cycles
@@ -67,7 +67,7 @@ pub record RejectingPath (g : Graph) (σ : Setting) (w : List Cycle) (p : List E
 -- the last of these cycles is rejected: some setting, the same in all cycles, and some path condemn it
 pub record Rejected (g : Graph) (cycles : List Cycle) : Type 0 where
   pub setting : Setting
-  pub a-bit-each : length setting ≡ length (g .constants)
+  pub a-bit-each : length setting ≡ constantBits g
   pub path : List Edge
   pub rejects : RejectingPath g setting (sinceInit cycles) path
 
@@ -79,7 +79,7 @@ unfoldable pub rejectedUnder : Graph → Setting → List Cycle → Bool
 rejectedUnder g σ cs = any (rejectsAlong g σ (sinceInit cs)) (lists (length (sinceInit cs)) (g .edges))
 
 unfoldable pub isRejected : Graph → List Cycle → Bool
-isRejected g cs = any (λ σ. rejectedUnder g σ cs) (lists (length (g .constants)) (false ∷ true ∷ []))
+isRejected g cs = any (λ σ. rejectedUnder g σ cs) (lists (constantBits g) (false ∷ true ∷ []))
 
 -- ---- counting
 -- one byte a cycle, 1 rejected or 0 accepted, for the cycles cs that come after the cycles seen; a cycle
@@ -103,7 +103,8 @@ pub data TerminalEdge (g : Graph) (e : Edge) : Type 0 where
   unmarked : g .mode ≡ Unsaid → ((f : Edge) → List·Memᴰ f (g .edges) → f .marked ≡ false) → TerminalEdge g e
 
 -- ---- THE CLAIM on these definitions: the computed tests find a terminal edge, and a setting and a rejecting
--- path, exactly where there are some, and `sinceInit` goes back to the latest init
+-- path, exactly where there are some; `sinceInit` goes back to the latest init; and `==` holds exactly where the
+-- two names are alike in each bit
 pub record PathsMean : Type 0 where
   pub terminal : (g : Graph) (e : Edge) → isTerminal g e ≡ true → TerminalEdge g e
   pub terminals : (g : Graph) (e : Edge) → TerminalEdge g e → isTerminal g e ≡ true
@@ -111,3 +112,7 @@ pub record PathsMean : Type 0 where
   pub finds : (g : Graph) (cs : List Cycle) → Rejected g cs → isRejected g cs ≡ true
   pub latest : (cs : List Cycle) → any isInit cs ≡ true → Latest cs
   pub before-init : (cs : List Cycle) → any isInit cs ≡ false → sinceInit cs ≡ []
+  pub signal-bit : (σ : Setting) (c : Cycle) (i n : ℕ) → bitHolds σ c (signalsFrom i) n ≡ holds σ c (signal (i + n))
+  pub constant-bit : (σ : Setting) (c : Cycle) (j n : ℕ) → bitHolds σ c (constantsFrom j) n ≡ holds σ c (constant (j + n))
+  pub each-bit : (σ : Setting) (c : Cycle) (a b : Run) (w : ℕ) → holds σ c (alike a b w) ≡ true → (n : ℕ) → n < w → bitHolds σ c a n ≡ bitHolds σ c b n
+  pub alike-bits : (σ : Setting) (c : Cycle) (a b : Run) (w : ℕ) → ((n : ℕ) → n < w → bitHolds σ c a n ≡ bitHolds σ c b n) → holds σ c (alike a b w) ≡ true

@@ -9,7 +9,7 @@ use lib.ListN.{length, getD, length-append}
 use lib.Dec.{eqb}
 use Rattle.netlist.specs.Literals.{literalOf}
 use Rattle.netlist.proofs.LiteralLaws.{variable-literal, inverted-literal}
-use Rattle.assertion.specs.Graph.{Edge, Graph, isTerminal}
+use Rattle.assertion.specs.Graph.{Edge, Graph, isTerminal, signalBits}
 use Rattle.circuit.specs.Gates.{lit, inv, gate, Piece}
 use Rattle.circuit.specs.Build.{init, Two, Pieces, masks, orFrom, orAll, happyTerms, condemnedTerms, happyOr, condemnedOr, vertexPieces, edgePiece, edgePieces, andFrom, andAll, acceptTerms, firstEdgeLatch, firstGate, masked, gathered, judged, accepted, gatesOf}
 use Rattle.circuit.specs.Numbers.{edgeLatches}
@@ -18,6 +18,7 @@ use Rattle.builder.specs.Private.Terms.{maskGates, everyOther, termsOf, 
 use Rattle.builder.specs.Private.Edges.{two, edgeOf, edgesOf, targets, marks, markOf}
 use Rattle.builder.specs.Private.Monitor.{gatherOf, gatherGates, judgeGates, acceptAfter, monitorGates, monitorAccept, monitorEdges, JudgeMade, MonitorMade, edgePairs}
 use Rattle.builder.proofs.AddingLaws.{whole-of}
+use Rattle.builder.proofs.AlikeLaws.{and-all}
 use Rattle.builder.proofs.EdgeLaws.{chosen, length-chosen, targets-chosen, edges-chosen}
 
 abbrev happies : List Two → List ℕ
@@ -116,21 +117,6 @@ edges-are s vs (e ∷ es) n =
     let z : getD vs (e .from) (two 0 0) ≡ two (getD (happies vs) (e .from) 0) (getD (condemneds vs) (e .from) 0) = zip-two vs (e .from) in
     rw z (record { gates = rw (r .gates); happy = rw (r .happy); condemned = rw (r .condemned) })
 
--- 4. accept: the inverse of an OR chain, gate for gate the same
-inv-flip : (n : ℕ) (b : Bool) → inv (literalOf n b) ≡ literalOf n (not b)
-unfolding inv
-inv-flip n b = rw (variable-literal n b, inverted-literal n b)
-
-and-from : (ts : List ℕ) (n so : ℕ) → andFrom n (inv so) (map inv ts) ≡ record { gates = orFrom n so ts .gates; out = inv (orFrom n so ts .out) }
-and-from [] n so = refl
-and-from (t ∷ ts) n so =
-    let h = and-from ts (suc n) (literalOf n true) in
-    ap (λ (p : Piece). record { gates = gate (inv so) (inv t) ∷ p .gates; out = p .out }) (rw (inv-flip n true) at h)
-
-and-all : (ts : List ℕ) (n : ℕ) → andAll n (map inv ts) ≡ record { gates = orAll n ts .gates; out = inv (orAll n ts .out) }
-and-all [] n = rw (inv-flip 0 false)
-and-all (t ∷ ts) n = and-from ts n t
-
 accept-terms : (g : Graph) (es : List Edge) (ms : List Two) → acceptTerms g es ms ≡ map inv (termsOf 1 (marks (chosen g es)) (condemneds ms))
 accept-terms g [] ms = refl
 accept-terms g (e ∷ es) [] = refl
@@ -186,7 +172,7 @@ module _ (g : Graph) where
   cs = chosen g es
 
   abbrev s : ℕ
-  s = length (g .signals)
+  s = signalBits g
 
   abbrev v : ℕ
   v = length (g .vertices)

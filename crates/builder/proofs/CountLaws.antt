@@ -3,29 +3,33 @@ use mathlib.Core.Path.{_≡_, refl, sym, ap, _∙_}
 use mathlib.Core.Bool.{Bool, true, false, cond}
 use mathlib.Core.List.{List, [], _∷_, _++_}
 use mathlib.Core.Logic.{⊎-elim}
-use Prim.Native.Nat.{ℕ, zero, suc, _+_, _-_, _≤_, _<_}
+use Prim.Native.Nat.{ℕ, zero, suc, _+_, _-_, _*_, _/_, _≤_, _<_}
 use native.Mathlib.Nat.{add-zero}
 use native.Mathlib.Numerals.{add-one}
 use native.Mathlib.Omega.{arith}
-use borrow.Author.Tests.{eq-eqb, ne-eqb, lt-ltb, le-ltb}
+use borrow.Author.Tests.{eq-eqb, ne-eqb, eqb-true, lt-ltb, le-ltb}
 use lib.Dec.{eqb, ltb}
 use lib.ListN.{length, getD, take, drop, replicate, length-append, List·getD-append}
-use Rattle.assertion.specs.Graph.{Bytes, Expr, truth, signal, constant, neg, conj, disj, xor, same, Edge, Graph, isTerminal}
+use Rattle.assertion.specs.Graph.{Bytes, Run, Expr, Name, truth, signal, constant, neg, conj, disj, xor, same, Edge, Graph, bitsOf, isTerminal}
+use Rattle.assertion.specs.Graph as G
 use Rattle.formula.specs.declared.Formula.{Formula}
 use Rattle.formula.specs.declared.Start.the-variants.{Bit}
 use Rattle.formula.specs.Classes.{pick, strengthOf, startOf}
-use Rattle.formula.specs.Grammar.{Tree, name, bit, not, group, join, Parsed, none, tree, treeOf}
-use Rattle.formula.specs.Reading.{nameWord, byteWord, postfix, padded, answerOf, formulaOf}
-use Rattle.formula.proofs.PostfixLaws.{InField, name-word-small, byte-word-large, byte-word-back, field-short, in-field, words-few}
-use Rattle.graph.specs.Reading.{joined, symbol, resolved, accepted, graphOf}
-use Rattle.graph.specs.Pieces.{lookUp}
+use Rattle.formula.specs.Grammar.{Tree, name, bitOf, alike, bit, not, group, join, Parsed, none, tree, treeOf}
+use Rattle.formula.specs.Reading.{nameWord, bitWord, alikeWord, byteWord, postfix, padded, answerOf, formulaOf}
+use Rattle.formula.proofs.PostfixLaws.{NameIn, InField, name-place, name-length, name-word-small, byte-word-large, byte-word-back, byte-word-small, bit-word-large, bit-word-small, alike-word-large, alike-word-left, field-short, in-field, words-few}
+use Rattle.graph.specs.Pieces.{Declared, placed, lookUpName}
+use Rattle.graph.specs.Reading.{joined, symbol, runOf, foundAt, namesOf, resolved, accepted, graphOf}
+use Rattle.graph.specs.Private.Steps.{EachNarrow, listed, nameFound}
 use Rattle.graph.specs.Held.{heldAs, heldOf, noArc}
 use Rattle.graph.specs.declared.Arc.{Arc}
 use Rattle.graph.specs.declared.CheckedGraph.{CheckedGraph}
+use Rattle.graph.specs.declared.FoundName.{FoundName}
 use Rattle.graph.specs.Claims.{FormulaAt, FormulaSound, EdgeSound, Sound}
 use Rattle.graph.proofs.HeldLaws.{sound}
+use Rattle.graph.proofs.WordLaws.{found-narrow}
 use Rattle.circuit.specs.Count.{formulaGates, allFormulaGates, incoming, entered, terminals, gateFormula}
-use Rattle.builder.specs.Private.Machine.{summed, byteGates, wordGates, gatesAt, readGates, fieldGates, arcGates, goesTo, isReached, terminalAt, gatesBy}
+use Rattle.builder.specs.Private.Machine.{Bounded, summed, byteGates, wordGates, gatesAt, readGates, fieldGates, arcGates, goesTo, isReached, terminalAt, gatesBy}
 use Rattle.builder.proofs.FormulaLaws.{bit-is}
 
 -- ---- a loop that adds: what is left has one term less, and none at the end
@@ -52,52 +56,69 @@ module _ {A : Type 0} (g : A → ℕ) (total : List A → ℕ) (zero-is : total 
       rw (a, b) (sym (more x l))
 
 -- ---- one word
-module _ (w : ℕ) where
-  pub gates-name : w < 4096 → wordGates w ≡ 0
+module _ (b : ℕ) where
+  pub byte-and : b ≡ 38 → byteGates b ≡ 1
+  unfolding byteGates
+  byte-and e = rw e
+
+  pub byte-or : b ≡ 124 → byteGates b ≡ 1
+  unfolding byteGates
+  byte-or e = rw e
+
+  pub byte-xor : b ≡ 94 → byteGates b ≡ 3
+  unfolding byteGates
+  byte-xor e = rw e
+
+  pub byte-same : b ≡ 61 → byteGates b ≡ 3
+  unfolding byteGates
+  byte-same e = rw e
+
+  pub byte-other : (b ≡ 38 → ⊥) → (b ≡ 124 → ⊥) → (b ≡ 94 → ⊥) → (b ≡ 61 → ⊥) → byteGates b ≡ 0
+  unfolding byteGates
+  byte-other h k l m = rw (ne-eqb b 38 h, ne-eqb b 124 k, ne-eqb b 94 l, ne-eqb b 61 m)
+
+module _ (ns : List Declared) (s : Bytes) (w : ℕ) where
+  pub gates-name : w < 4096 → wordGates ns s w ≡ 0
   unfolding wordGates
   gates-name h = rw (lt-ltb w 4096 h)
 
-  module _ (h : 4096 ≤ w) where
-    pub gates-and : w - 4096 ≡ 38 → wordGates w ≡ 1
-    unfolding wordGates byteGates
-    gates-and e = rw (le-ltb w 4096 h, e)
+  pub gates-byte : 4096 ≤ w → w < 8192 → wordGates ns s w ≡ byteGates (w - 4096)
+  unfolding wordGates
+  gates-byte l h = rw (le-ltb w 4096 l, lt-ltb w 8192 h)
 
-    pub gates-or : w - 4096 ≡ 124 → wordGates w ≡ 1
-    unfolding wordGates byteGates
-    gates-or e = rw (le-ltb w 4096 h, e)
+  pub gates-bit : 8192 ≤ w → w < 16777216 → wordGates ns s w ≡ 0
+  unfolding wordGates
+  gates-bit l h = rw (le-ltb w 4096 (omega arith), le-ltb w 8192 l, lt-ltb w 16777216 h)
 
-    pub gates-xor : w - 4096 ≡ 94 → wordGates w ≡ 3
-    unfolding wordGates byteGates
-    gates-xor e = rw (le-ltb w 4096 h, e)
+  pub gates-alike : {x : FoundName} → 16777216 ≤ w → x ≡ nameFound ns s ((w - 16777216) / 4096) → wordGates ns s w ≡ 4 * x .width - 1
+  unfolding wordGates
+  gates-alike l e = rw (le-ltb w 4096 (omega arith), le-ltb w 8192 (omega arith), le-ltb w 16777216 l, ← e)
 
-    pub gates-same : w - 4096 ≡ 61 → wordGates w ≡ 3
-    unfolding wordGates byteGates
-    gates-same e = rw (le-ltb w 4096 h, e)
+-- a name looked up has 16 bits at most
+bounded-narrow : (ns : List Declared) → Bounded ns → EachNarrow ns
+bounded-narrow [] b = tt
+bounded-narrow (d ∷ ds) b = (b .1, bounded-narrow ds (b .2))
 
-    pub gates-other : (w - 4096 ≡ 38 → ⊥) → (w - 4096 ≡ 124 → ⊥) → (w - 4096 ≡ 94 → ⊥) → (w - 4096 ≡ 61 → ⊥) → wordGates w ≡ 0
-    unfolding wordGates byteGates
-    gates-other a b c d = rw (le-ltb w 4096 h, ne-eqb (w - 4096) 38 a, ne-eqb (w - 4096) 124 b, ne-eqb (w - 4096) 94 c, ne-eqb (w - 4096) 61 d)
-
-byte-gates : (b : ℕ) → wordGates (byteWord b) ≡ byteGates b
-unfolding wordGates
-byte-gates b = rw (le-ltb (byteWord b) 4096 (byte-word-large b), byte-word-back b)
-
-gates-at : (words : List ℕ) (i : ℕ) {x : ℕ} → x ≡ wordGates (getD words i 0) → x ≡ gatesAt words i
-unfolding gatesAt
-gates-at words i e = e
+pub width-few : (ns : List Declared) (n : Bytes) {x : FoundName} → Bounded ns → x ≡ lookUpName n ns → x .width ≤ 16
+width-few ns n b e = rw e (found-narrow n ns (bounded-narrow ns b))
 
 -- the loop over the words goes on
-pub word-counted : (words : List ℕ) (i n : ℕ) {x : ℕ} → i < n → x ≡ wordGates (getD words i 0) → summed (gatesAt words) i (n - i) ≡ x + summed (gatesAt words) (i + 1) (n - (i + 1))
-word-counted words i n l e = rw (gates-at words i e) (summed-step (gatesAt words) i n l)
+module _ (ns : List Declared) (s : Bytes) (words : List ℕ) (i n : ℕ) where
+  at-word : {x : ℕ} → x ≡ wordGates ns s (getD words i 0) → x ≡ gatesAt ns s words i
+  unfolding gatesAt
+  at-word e = e
+
+  pub word-counted : {x : ℕ} → i < n → x ≡ wordGates ns s (getD words i 0) → summed (gatesAt ns s words) i (n - i) ≡ x + summed (gatesAt ns s words) (i + 1) (n - (i + 1))
+  word-counted l e = rw (at-word e) (summed-step (gatesAt ns s words) i n l)
 
 -- ---- one edge
 pub terminal-counted : (arcs : List Arc) (i n : ℕ) {t : Bool} → i < n → t ≡ getD arcs i noArc .terminal → summed (terminalAt arcs) i (n - i) ≡ cond t 1 0 + summed (terminalAt arcs) (i + 1) (n - (i + 1))
 unfolding terminalAt
 terminal-counted arcs i n l e = summed-step (terminalAt arcs) i n l ∙ rw e
 
-pub gates-counted : (text : Bytes) (arcs : List Arc) (i n : ℕ) {a : Arc} {x : ℕ} → i < n → a ≡ getD arcs i noArc → x ≡ fieldGates text (a .left) (a .lefts) + fieldGates text (a .right) (a .rights) → summed (arcGates text arcs) i (n - i) ≡ x + summed (arcGates text arcs) (i + 1) (n - (i + 1))
+pub gates-counted : (text : Bytes) (ns : List Declared) (arcs : List Arc) (i n : ℕ) {a : Arc} {x : ℕ} → i < n → a ≡ getD arcs i noArc → x ≡ fieldGates text ns (a .left) (a .lefts) + fieldGates text ns (a .right) (a .rights) → summed (arcGates text ns arcs) i (n - i) ≡ x + summed (arcGates text ns arcs) (i + 1) (n - (i + 1))
 unfolding arcGates
-gates-counted text arcs i n {a} {x} l e k = summed-step (arcGates text arcs) i n l ∙ rw (← e, ← k)
+gates-counted text ns arcs i n {a} {x} l e k = summed-step (arcGates text ns arcs) i n l ∙ rw (← e, ← k)
 
 module _ (arcs : List Arc) (v i n : ℕ) (l : i < n) where
   -- the first that goes to v
@@ -127,23 +148,11 @@ pub words-room : (s : Bytes) {f : Formula} → f ≡ formulaOf s → (f .count �
 unfolding formulaOf
 words-room s e = rw e (read-few (treeOf s) s refl)
 
-pub field-counted : (text : Bytes) (at n : ℕ) {field : Bytes} {f : Formula} {x : ℕ} → field ≡ take n (drop at text) → f ≡ formulaOf field → x ≡ summed (gatesAt (f .words)) 0 (f .count) → x ≡ fieldGates text at n
+pub field-counted : (text : Bytes) (ns : List Declared) (at n : ℕ) {field : Bytes} {f : Formula} {x : ℕ} → field ≡ take n (drop at text) → f ≡ formulaOf field → x ≡ summed (gatesAt ns field (f .words)) 0 (f .count) → x ≡ fieldGates text ns at n
 unfolding fieldGates readGates
-field-counted text at n p e k = k ∙ rw (e, p)
+field-counted text ns at n p e k = k ∙ rw (e, p)
 
 -- ---- the words of a tree
-abbrev allWords : List ℕ → ℕ
-allWords [] = 0
-allWords (w ∷ ws) = wordGates w + allWords ws
-
-all-append : (a b : List ℕ) → allWords (a ++ b) ≡ allWords a + allWords b
-all-append [] b = omega arith
-all-append (w ∷ a) b = omega (arith, all-append a b)
-
--- a word of a byte after others
-all-byte : (a : List ℕ) (b : ℕ) → allWords (a ++ (byteWord b ∷ [])) ≡ allWords a + byteGates b
-all-byte a b = omega (arith, all-append a (byteWord b ∷ []), byte-gates b)
-
 plain-byte : (b : ℕ) → startOf b ≡ Bit → byteGates b ≡ 0
 unfolding byteGates
 plain-byte b h = ⊎-elim (λ (e : b ≡ 48). rw e) (λ (e : b ≡ 49). rw e) (bit-is b h)
@@ -151,6 +160,20 @@ plain-byte b h = ⊎-elim (λ (e : b ≡ 48). rw e) (λ (e : b ≡ 49). rw e) (b
 not-byte : byteGates 33 ≡ 0
 unfolding byteGates
 not-byte = refl
+
+operator-small : (b : ℕ) → 0 < strengthOf b → b < 256
+unfolding strengthOf
+operator-small b h = at (eqb b 38) (eqb b 94) (eqb b 124) (eqb b 61) refl refl refl refl h
+  where
+    at : (t u v w : Bool) → eqb b 38 ≡ t → eqb b 94 ≡ u → eqb b 124 ≡ v → eqb b 61 ≡ w → 0 < pick t 4 (pick u 3 (pick v 2 (pick w 1 0))) → b < 256
+    at true u v w p q r o k = omega (arith, eqb-true b 38 p)
+    at false true v w p q r o k = omega (arith, eqb-true b 94 q)
+    at false false true w p q r o k = omega (arith, eqb-true b 124 r)
+    at false false false true p q r o k = omega (arith, eqb-true b 61 o)
+    at false false false false p q r o k = absurd (omega arith)
+
+bit-small : (b : ℕ) → startOf b ≡ Bit → b < 256
+bit-small b h = ⊎-elim (λ (e : b ≡ 48). omega arith) (λ (e : b ≡ 49). omega arith) (bit-is b h)
 
 symbol-gates : (m i : ℕ) → formulaGates (symbol m i) ≡ 0
 unfolding symbol formulaGates
@@ -163,6 +186,10 @@ symbol-gates m i = at (ltb i m)
 truth-gates : (b : Bool) → formulaGates (truth b) ≡ 0
 unfolding formulaGates
 truth-gates b = refl
+
+alike-gates : (x y : Run) (w : ℕ) → formulaGates (G.alike x y w) ≡ 4 * w - 1
+unfolding formulaGates
+alike-gates x y w = refl
 
 neg-gates : (x : Expr) → formulaGates (neg x) ≡ formulaGates x
 unfolding formulaGates
@@ -179,33 +206,73 @@ joined-gates b x y h = at (eqb b 38) (eqb b 124) (eqb b 94) (eqb b 61) h
     at false false false true k = refl
     at false false false false k = absurd (omega arith)
 
-module _ (m : ℕ) (ns : List Bytes) (s : Bytes) (short : length s ≤ 255) where
-  tree-gates : (e : Tree) → InField s e → allWords (postfix e) ≡ formulaGates (resolved m ns s e)
-  unfolding postfix resolved
-  tree-gates (name p k) h =
-      omega (arith, gates-name (nameWord p k) (name-word-small s p k short h), symbol-gates m (lookUp (take k (drop p s)) ns .place))
-  tree-gates (bit b) h = omega (arith, byte-gates b, plain-byte b h, truth-gates (eqb b 49))
-  tree-gates (not e) h = omega (arith, all-byte (postfix e) 33, not-byte, tree-gates e h, neg-gates (resolved m ns s e))
-  tree-gates (group e) h = tree-gates e h
-  tree-gates (join b e e2) h =
-      omega (arith, all-byte (postfix e ++ postfix e2) b, all-append (postfix e) (postfix e2), tree-gates e (h .1), tree-gates e2 (h .2), joined-gates b (resolved m ns s e) (resolved m ns s e2) (h .0))
+-- the words of a formula in the field s, ns the names
+module _ (ns : List Declared) (s : Bytes) where
+  abbrev allWords : List ℕ → ℕ
+  allWords [] = 0
+  allWords (w ∷ ws) = wordGates ns s w + allWords ws
 
-words-gates : (ws more : List ℕ) → summed (gatesAt (ws ++ more)) 0 (length ws) ≡ allWords ws
-unfolding gatesAt
-words-gates ws more =
-    summed-list wordGates allWords refl (λ x l. refl) (gatesAt (ws ++ more)) 0 ws 0
-    (λ i l. let z : 0 + i ≡ i = omega arith in rw (z, List·getD-append ws more 0 i l))
+  all-append : (a b : List ℕ) → allWords (a ++ b) ≡ allWords a + allWords b
+  all-append [] b = omega arith
+  all-append (w ∷ a) b = omega (arith, all-append a b)
 
-read-gates : (s : Bytes) (e : Tree) → treeOf s ≡ tree e → readGates (formulaOf s) ≡ allWords (postfix e)
-unfolding readGates formulaOf answerOf padded
-read-gates s e h = rw h (words-gates (postfix e) (replicate (255 - length (postfix e)) 0))
+  byte-gates : (b : ℕ) → b < 256 → wordGates ns s (byteWord b) ≡ byteGates b
+  byte-gates b h = gates-byte ns s (byteWord b) (byte-word-large b) (byte-word-small b h) ∙ ap byteGates (byte-word-back b)
 
-formula-gates : (text : Bytes) (p n : ℕ) (ss cs : List Bytes) (s : Bytes) (x : Expr) → FormulaAt text p n s → FormulaSound ss cs s x → fieldGates text p n ≡ formulaGates x
+  -- a word of a byte after others
+  all-byte : (a : List ℕ) (b : ℕ) → b < 256 → allWords (a ++ (byteWord b ∷ [])) ≡ allWords a + byteGates b
+  all-byte a b h = omega (arith, all-append a (byteWord b ∷ []), byte-gates b h)
+
+  words-gates : (ws more : List ℕ) → summed (gatesAt ns s (ws ++ more)) 0 (length ws) ≡ allWords ws
+  unfolding gatesAt
+  words-gates ws more =
+      summed-list (wordGates ns s) allWords refl (λ x l. refl) (gatesAt ns s (ws ++ more)) 0 ws 0
+      (λ i l. let z : 0 + i ≡ i = omega arith in rw (z, List·getD-append ws more 0 i l))
+
+  read-gates : (e : Tree) → treeOf s ≡ tree e → readGates ns s (formulaOf s) ≡ allWords (postfix e)
+  unfolding readGates formulaOf answerOf padded
+  read-gates e h = rw h (words-gates (postfix e) (replicate (255 - length (postfix e)) 0))
+
+  module _ (m : ℕ) (short : length s ≤ 255) where
+    word-small : (p n : ℕ) → NameIn s p n → nameWord p n < 4096
+    word-small p n h = name-word-small s p n short h
+
+    left-found : (p n q k : ℕ) → NameIn s p n → NameIn s q k → foundAt ns s p n ≡ nameFound ns s ((alikeWord p n q k - 16777216) / 4096)
+    left-found p n q k h i = rw (alike-word-left p n q k (word-small p n h) (word-small q k i), name-place p n (h .short), name-length p n (h .short))
+
+    tree-gates : (e : Tree) → InField s e → allWords (postfix e) ≡ formulaGates (resolved m ns s e)
+    unfolding postfix resolved
+    tree-gates (name p n) h =
+        omega (arith, gates-name ns s (nameWord p n) (word-small p n h), symbol-gates m (foundAt ns s p n .place))
+    tree-gates (bitOf p n i) h =
+        omega (arith, gates-bit ns s (bitWord p n i) (bit-word-large p n i) (bit-word-small p n i (word-small p n h)), symbol-gates m (foundAt ns s p n .place + i))
+    tree-gates (alike p n q k) h =
+        let l = foundAt ns s p n in
+        omega (
+          arith,
+          gates-alike ns s (alikeWord p n q k) (alike-word-large p n q k) (left-found p n q k (h .0) (h .1)),
+          alike-gates (runOf m (l .place)) (runOf m (foundAt ns s q k .place)) (l .width),
+        )
+    tree-gates (bit b) h = omega (arith, byte-gates b (bit-small b h), plain-byte b h, truth-gates (eqb b 49))
+    tree-gates (not e) h = omega (arith, all-byte (postfix e) 33 (omega arith), not-byte, tree-gates e h, neg-gates (resolved m ns s e))
+    tree-gates (group e) h = tree-gates e h
+    tree-gates (join b e e2) h =
+        omega (
+          arith,
+          all-byte (postfix e ++ postfix e2) b (operator-small b (h .0)),
+          all-append (postfix e) (postfix e2),
+          tree-gates e (h .1),
+          tree-gates e2 (h .2),
+          joined-gates b (resolved m ns s e) (resolved m ns s e2) (h .0),
+        )
+
+formula-gates : (text : Bytes) (p n : ℕ) (ss cs : List Name) (s : Bytes) (x : Expr) → FormulaAt text p n s → FormulaSound ss cs s x → fieldGates text (placed 0 (ss ++ cs)) p n ≡ formulaGates x
 unfolding fieldGates
 formula-gates text p n ss cs s x a f =
+    let ns = placed 0 (ss ++ cs) in
     let e = f .parse in
     let h = f .parsed in
-    rw (a .bytes) (read-gates s e h ∙ tree-gates (length ss) (ss ++ cs) s (field-short s e h) e (in-field s e h) ∙ sym (ap formulaGates (f .means)))
+    rw (a .bytes) (read-gates ns s e h ∙ tree-gates ns s (bitsOf ss) (field-short s e h) e (in-field s e h) ∙ sym (ap formulaGates (f .resolves)))
 
 -- ---- all edges
 abbrev noEdge : Edge
@@ -241,10 +308,10 @@ module _ (text : Bytes) {graph : Graph} (s : Sound text graph) where
       summed-list (λ e. cond (isTerminal graph e) 1 0) (terminals graph) refl (λ e es. refl) (terminalAt (heldOf text graph .arcs)) noEdge (graph .edges) 0
       (λ i l. let z : 0 + i ≡ i = omega arith in rw (z, edges-sound i l .terminal-is))
 
-  formulas-is : summed (arcGates text (heldOf text graph .arcs)) 0 (length (graph .edges)) ≡ allFormulaGates (graph .edges)
+  formulas-is : summed (arcGates text (namesOf graph) (heldOf text graph .arcs)) 0 (length (graph .edges)) ≡ allFormulaGates (graph .edges)
   unfolding arcGates
   formulas-is =
-      summed-list (λ e. formulaGates (e .antecedent) + formulaGates (e .consequent)) allFormulaGates refl (λ e es. refl) (arcGates text (heldOf text graph .arcs)) noEdge (graph .edges) 0
+      summed-list (λ e. formulaGates (e .antecedent) + formulaGates (e .consequent)) allFormulaGates refl (λ e es. refl) (arcGates text (namesOf graph) (heldOf text graph .arcs)) noEdge (graph .edges) 0
       (λ i l.
       let z : 0 + i ≡ i = omega arith in
       let w = edges-sound i l in
@@ -260,11 +327,15 @@ module _ (text : Bytes) {graph : Graph} (s : Sound text graph) where
   unfolding heldOf heldAs
   vertices-held = refl
 
+  names-held : listed text (heldOf text graph .names) (heldOf text graph .named) ≡ namesOf graph
+  unfolding heldOf heldAs
+  names-held = s .names-held
+
   held-counted : gatesBy text (heldOf text graph) ≡ gateFormula graph
   unfolding gatesBy gateFormula
   held-counted =
       let z : length (graph .vertices) - 0 ≡ length (graph .vertices) = omega arith in
-      rw (edges-held, vertices-held, z, entered-is (length (graph .vertices) - 1) 1, entered-is (length (graph .vertices)) 0, terminals-is, formulas-is)
+      rw (edges-held, vertices-held, z, entered-is (length (graph .vertices) - 1) 1, entered-is (length (graph .vertices)) 0, terminals-is, names-held, formulas-is)
 
 -- THE LAW: the gates counted by the arrays of an accepted text are those of the formula
 pub counted : (text : Bytes) {g : CheckedGraph} (graph : Graph) → graphOf text ≡ accepted graph → g ≡ heldOf text graph → gatesBy text g ≡ gateFormula graph

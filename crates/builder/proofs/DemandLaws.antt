@@ -7,7 +7,7 @@ use native.Mathlib.Omega.{arith}
 use borrow.Author.Tests.{leb-true, le-leb, lt-leb}
 use lib.Dec.{leb}
 use lib.ListN.{length, drop}
-use Rattle.assertion.specs.Graph.{Bytes, Graph}
+use Rattle.assertion.specs.Graph.{Bytes, Graph, signalBits, constantBits}
 use Rattle.graph.specs.Reading.{refused, accepted, graphOf}
 use Rattle.graph.specs.declared.Cause as graph
 use Rattle.netlist.specs.Valid.{isNetlist}
@@ -16,6 +16,7 @@ use Rattle.circuit.specs.Build.{gatesOf}
 use Rattle.circuit.specs.Numbers.{numbersOf}
 use Rattle.circuit.proofs.Fits.{Fits}
 use Rattle.circuit.proofs.Netlist.{numbers-netlist}
+use Rattle.circuit.proofs.AlikeGates.{alike-means}
 use Rattle.demand.proofs.Demand.{demand3}
 use Rattle.demand.proofs.Forms.{either-form}
 use Rattle.builder.specs.declared.Cause.the-variants.{GraphText, TooManyVariables, ShortBuffer}
@@ -90,11 +91,12 @@ build-means text net =
       short = λ g e n l. rw e (too-short g net n l);
       unread = λ cause e. rw e (unread-text cause net);
       refuses = λ g e n. rw e (too-many g net (fits text e) n);
+      compared = alike-means;
       forms = either-form;
     }
   where
     so : (g : Graph) (made : ℕ) → graphOf text ≡ accepted g → buildAs (graphOf text) net .answer ≡ Gates made → Made g net made (buildAs (accepted g) net)
     so g made e a = made-so g net made (subst (λ o. buildAs o net .answer ≡ Gates made) e a)
 
-    small : (g : Graph) → variablesOf g ≤ 4095 → length (gatesOf g) + (1 + length (g .signals)) + (length (g .constants) + 2 * length (g .edges)) ≤ 4095
+    small : (g : Graph) → variablesOf g ≤ 4095 → length (gatesOf g) + (1 + signalBits g) + (constantBits g + 2 * length (g .edges)) ≤ 4095
     small g h = omega arith

@@ -9,6 +9,7 @@ use lib.ListN.{length, getD, take, drop, length-take, length-map}
 use lib.Seq.{drop-cons, getD-take}
 use Rattle.netlist.specs.Literals.{literalOf}
 use Rattle.assertion.specs.Graph.{Bytes, Edge, Graph, isTerminal}
+use Rattle.graph.specs.Pieces.{Declared}
 use Rattle.graph.specs.Held.{noArc}
 use Rattle.graph.specs.declared.Arc.{Arc}
 use Rattle.graph.specs.declared.CheckedGraph.{CheckedGraph}
@@ -43,7 +44,7 @@ module _ (s n : ℕ) (h d : ℕ) (e : Edge) (k m : ℕ) (ek : k ≡ n + length (
       rw (← ek, ← em, e1, e4) (refl, refl)
 
 -- an edge by its from-vertex's literals
-pub edge-at : (s n v : ℕ) (hs ds : List ℕ) (text : Bytes) (ns : List Bytes) (a : Arc) → a .from < v →
+pub edge-at : (s n v : ℕ) (hs ds : List ℕ) (text : Bytes) (ns : List Declared) (a : Arc) → a .from < v →
     edgeOf s n (take v hs) (take v ds) (edgeIn text ns s a) ≡ edgePiece s n (two (getD hs (a .from) 0) (getD ds (a .from) 0)) (edgeIn text ns s a)
 unfolding edgeOf edgeIn
 edge-at s n v hs ds text ns a h = rw (getD-take v hs (a .from) 0 h, getD-take v ds (a .from) 0 h)
@@ -75,11 +76,11 @@ module _ (arcs : List Arc) (count : ℕ) (long : count ≤ length arcs) where
       past (x ∷ l) zero p = absurd (omega arith)
       past (x ∷ l) (suc j) p = past l j (omega arith)
 
-  pub edges-row : (text : Bytes) (ns : List Bytes) (s i : ℕ) → i < count →
+  pub edges-row : (text : Bytes) (ns : List Declared) (s i : ℕ) → i < count →
       edgesFrom text ns s (drop i (take count arcs)) ≡ edgeIn text ns s (getD arcs i noArc) ∷ edgesFrom text ns s (drop (i + 1) (take count arcs))
   edges-row text ns s i h = rw (arc-row i h)
 
-  pub edges-none : (text : Bytes) (ns : List Bytes) (s i : ℕ) → count ≤ i → edgesFrom text ns s (drop i (take count arcs)) ≡ []
+  pub edges-none : (text : Bytes) (ns : List Declared) (s i : ℕ) → count ≤ i → edgesFrom text ns s (drop i (take count arcs)) ≡ []
   edges-none text ns s i h = rw (arcs-end i h)
 
   pub targets-row : (i : ℕ) → i < count → arcTargets (drop i (take count arcs)) ≡ getD arcs i noArc .to ∷ arcTargets (drop (i + 1) (take count arcs))
@@ -89,17 +90,17 @@ module _ (arcs : List Arc) (count : ℕ) (long : count ≤ length arcs) where
   marks-row i h = rw (arc-row i h)
 
 -- ---- the columns of the edges
-targets-from : (text : Bytes) (ns : List Bytes) (s : ℕ) (arcs : List Arc) → targets (edgesFrom text ns s arcs) ≡ arcTargets arcs
+targets-from : (text : Bytes) (ns : List Declared) (s : ℕ) (arcs : List Arc) → targets (edgesFrom text ns s arcs) ≡ arcTargets arcs
 unfolding edgeIn
 targets-from text ns s [] = refl
 targets-from text ns s (a ∷ arcs) = ap (_∷_ (a .to)) (targets-from text ns s arcs)
 
-marks-from : (text : Bytes) (ns : List Bytes) (s : ℕ) (arcs : List Arc) → marks (edgesFrom text ns s arcs) ≡ arcMarks arcs
+marks-from : (text : Bytes) (ns : List Declared) (s : ℕ) (arcs : List Arc) → marks (edgesFrom text ns s arcs) ≡ arcMarks arcs
 unfolding edgeIn
 marks-from text ns s [] = refl
 marks-from text ns s (a ∷ arcs) = ap (_∷_ (markOf (a .terminal))) (marks-from text ns s arcs)
 
-pub from-length : (text : Bytes) (ns : List Bytes) (s : ℕ) (arcs : List Arc) → length (edgesFrom text ns s arcs) ≡ length arcs
+pub from-length : (text : Bytes) (ns : List Declared) (s : ℕ) (arcs : List Arc) → length (edgesFrom text ns s arcs) ≡ length arcs
 from-length text ns s [] = refl
 from-length text ns s (a ∷ arcs) = ap suc (from-length text ns s arcs)
 

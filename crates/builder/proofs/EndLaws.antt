@@ -6,7 +6,7 @@ use native.Mathlib.Nat.{add-zero}
 use native.Mathlib.Omega.{arith}
 use borrow.Author.Tests.{le-leb, lt-leb}
 use lib.ListN.{length, drop}
-use Rattle.assertion.specs.Graph.{Bytes, Graph}
+use Rattle.assertion.specs.Graph.{Bytes, Graph, signalBits, constantBits}
 use Rattle.graph.specs.Reading.{accepted, graphOf}
 use Rattle.graph.specs.Held.{heldAs, heldOf}
 use Rattle.graph.specs.Private.Steps.{Kept}
@@ -34,12 +34,12 @@ module _ (text : Bytes) {graph : Graph} (read : graphOf text ≡ accepted graph)
   numbers-in : numbersIn text (heldOf text graph) ≡ numbersOf graph
   unfolding numbersIn frontIn frontOf numbersOf heldOf heldAs firstEdgeLatch firstGate
   numbers-in =
-      let M = monitorEdges (length (graph .signals)) (length (graph .vertices)) (chosen graph (graph .edges)) (firstEdgeLatch graph) (firstGate graph) in
+      let M = monitorEdges (signalBits graph) (length (graph .vertices)) (chosen graph (graph .edges)) (firstEdgeLatch graph) (firstGate graph) in
       let E = edgePairs (M .happy) (M .condemned) in
-      let C = constantLatches (2 + length (graph .signals)) (length (graph .constants)) in
-      rw (gates-in, held.edges-held text read, ← output-is graph, latches-are graph, append-assoc C (E ++ (circuit.accepted graph .out ∷ [])) (operands (gatesOf graph)), append-assoc E (circuit.accepted graph .out ∷ []) (operands (gatesOf graph)), add-zero (2 + length (graph .signals)))
+      let C = constantLatches (2 + signalBits graph) (constantBits graph) in
+      rw (gates-in, held.edges-held text read, ← output-is graph, latches-are graph, append-assoc C (E ++ (circuit.accepted graph .out ∷ [])) (operands (gatesOf graph)), append-assoc E (circuit.accepted graph .out ∷ []) (operands (gatesOf graph)), add-zero (2 + signalBits graph))
 
-heldFields : (text : Bytes) (g : CheckedGraph) (graph : Graph) → g ≡ heldOf text graph → (g .signals ≡ length (graph .signals)) × (g .constants ≡ length (graph .constants)) × (g .edges ≡ length (graph .edges))
+heldFields : (text : Bytes) (g : CheckedGraph) (graph : Graph) → g ≡ heldOf text graph → (g .signals ≡ signalBits graph) × (g .constants ≡ constantBits graph) × (g .edges ≡ length (graph .edges))
 unfolding heldOf heldAs
 heldFields text g graph e = rw e (refl, refl, refl)
 
@@ -63,7 +63,7 @@ module _ (text : Bytes) (g : CheckedGraph) (a : Accepted text g) where
   good = subst (GraphGood text) (sym (a .held)) (held.good text (a .read))
 
   pub kept : Kept g
-  kept = record { signals-few = good .signals; constants-few = good .constants; vertices-few = good .vertices; edges-few = good .edges }
+  kept = record { named-few = good .named; signals-few = good .signals; constants-few = good .constants; vertices-few = good .vertices; edges-few = good .edges }
 
   gates-of : gatesIn text g ≡ gatesOf (a .graph)
   gates-of = rw (a .held) (gates-in text (a .read))
@@ -71,7 +71,7 @@ module _ (text : Bytes) (g : CheckedGraph) (a : Accepted text g) where
   numbers-of : numbersIn text g ≡ numbersOf (a .graph)
   numbers-of = rw (a .held) (numbers-in text (a .read))
 
-  fields : (g .signals ≡ length (a .graph .signals)) × (g .constants ≡ length (a .graph .constants)) × (g .edges ≡ length (a .graph .edges))
+  fields : (g .signals ≡ signalBits (a .graph)) × (g .constants ≡ constantBits (a .graph)) × (g .edges ≡ length (a .graph .edges))
   fields = heldFields text g (a .graph) (a .held)
 
   same-graph : (graph : Graph) → graphOf text ≡ accepted graph → a .graph ≡ graph

@@ -3,78 +3,80 @@
 use mathlib.Core.Path.{_≡_, refl, sym, _∙_}
 use mathlib.Core.Bool.{Bool, true, false}
 use mathlib.Core.List.{List, [], _∷_, _++_}
-use Prim.Native.Nat.{ℕ, zero, suc, _+_, _-_, _<_}
+use Prim.Native.Nat.{ℕ, zero, suc, _+_, _≤_, _<_}
 use native.Mathlib.Omega.{arith}
-use borrow.Author.Tests.{ltb-true, ltb-false, le-ltb}
-use lib.Dec.{eqb, ltb}
-use lib.ListN.{length, getD, take, drop, length-take, length-append, List·getD-map}
+use borrow.Author.Tests.{le-ltb}
+use lib.ListN.{length, getD, take, drop, length-append, length-take, List·getD-map}
 use lib.Seq.{ext-getD, getD-take}
-use Rattle.formula.specs.Classes.{pick}
-use Rattle.formula.specs.Grammar.{Tree, name, bit, not, group, join, treeOf, depthOf}
+use Rattle.formula.specs.Grammar.{Tree, treeOf, depthOf}
 use Rattle.assertion.specs.Graph as G
-use Rattle.assertion.specs.Graph.{Bytes, Expr, Edge, Graph}
-use Rattle.graph.specs.Pieces.{lookUp, placeOf}
-use Rattle.graph.specs.Reading.{known, symbol, joined, resolved, judgedTree, judgedFormula, treeExpr, graphOf, accepted}
+use Rattle.assertion.specs.Graph.{Bytes, Run, signalsFrom, constantsFrom, Expr, Name, Edge, Graph, bitsOf, signalBits, constantBits}
+use Rattle.graph.specs.Pieces.{Declared, placed}
+use Rattle.graph.specs.Reading.{namesOf, judgedTree, judgedFormula, treeExpr, graphOf, accepted}
+use Rattle.graph.specs.Meaning.{EachWidth, Named, bitIn, Means}
+use Rattle.graph.specs.Meaning.Named.{a-signal, a-constant}
+use Rattle.graph.specs.Meaning.Means.{one-bit, bit-of, compared, is-zero, is-one, inverted, bracketed, both, some, just-one, both-alike}
 use Rattle.graph.specs.Held.{noArc, heldAs, heldOf}
 use Rattle.graph.specs.declared.Arc.{Arc}
 use Rattle.graph.specs.declared.Judged.the-variants.{Fine}
 use Rattle.graph.specs.Claims.{FormulaSound, EdgeSound}
+use Rattle.graph.proofs.BitLaws.{bits-append, bits-some}
 use Rattle.graph.proofs.HeldLaws.{sound}
-use Rattle.circuit.proofs.Fits.{Scoped, EdgeFits, AllFit, Fits}
+use Rattle.circuit.proofs.Fits.{RunFits, Scoped, EdgeFits, AllFit, Fits}
 use Rattle.builder.proofs.EdgeLaws.{from-length, withMark, choose, chosen, length-chosen}
+use Rattle.builder.specs.Private.Machine.{Bounded}
 use Rattle.builder.specs.Private.Edges.{namesIn, edgeIn, edgesFrom, edgesIn, ArcGood, GraphGood}
 
 -- ---- formulas
-module _ (ss cs : List Bytes) (s : Bytes) where
-  both : (x y : Bool) → pick x y false ≡ true → (x ≡ true) × (y ≡ true)
-  both true y h = (refl, h)
-  both false y h = absurd (let z : _≡_ {A = ℕ} 0 1 = cc in omega arith)
+module _ (ss cs : List Name) where
+  bits-parted : (xs before : List Name) (x : Name) (after : List Name) → xs ≡ before ++ (x ∷ after) → bitsOf before + x .width ≤ bitsOf xs
+  unfolding bitsOf
+  bits-parted xs before x after e = rw e (omega (arith, bits-append before (x ∷ after)))
 
-  scoped-symbol : (i : ℕ) → i < length ss + length cs → Scoped (length ss) (length cs) (symbol (length ss) i)
-  unfolding symbol
-  scoped-symbol i h = by (ltb i (length ss)) refl
-    where
-      by : (t : Bool) → ltb i (length ss) ≡ t → Scoped (length ss) (length cs) (pick t (G.signal i) (G.constant (i - length ss)))
-      by true e = ltb-true i (length ss) e
-      by false e = let k = ltb-false i (length ss) e in omega arith
+  run-fits : (n : Bytes) (r : Run) (w : ℕ) → Named ss cs n r w → RunFits (bitsOf ss) (bitsOf cs) w r
+  run-fits n r w (a-signal before after v e) = bits-parted ss before (record { name = n; width = v }) after e
+  run-fits n r w (a-constant before after v e) = bits-parted cs before (record { name = n; width = v }) after e
 
-  scoped-joined : (b : ℕ) (x y : Expr) → Scoped (length ss) (length cs) x → Scoped (length ss) (length cs) y → Scoped (length ss) (length cs) (joined b x y)
-  unfolding joined
-  scoped-joined b x y p q = by (eqb b 38) (eqb b 124) (eqb b 94)
-    where
-      by : (t u w : Bool) → Scoped (length ss) (length cs) (pick t (G.conj x y) (pick u (G.disj x y) (pick w (G.xor x y) (G.same x y))))
-      by true u w = (p, q)
-      by false true w = (p, q)
-      by false false true = (p, q)
-      by false false false = (p, q)
+  bit-scoped : (r : Run) (i w : ℕ) → RunFits (bitsOf ss) (bitsOf cs) w r → i < w → Scoped (bitsOf ss) (bitsOf cs) (bitIn r i)
+  unfolding bitIn
+  bit-scoped (signalsFrom j) i w h l = omega arith
+  bit-scoped (constantsFrom j) i w h l = omega arith
 
-  scoped : (t : Tree) → known (ss ++ cs) s t ≡ true → Scoped (length ss) (length cs) (resolved (length ss) (ss ++ cs) s t)
-  unfolding known resolved lookUp
-  scoped (name p n) h =
-      let i = placeOf (take n (drop p s)) (ss ++ cs) in
-      scoped-symbol i (rw length-append at (ltb-true i (length (ss ++ cs)) h))
-  scoped (bit b) h = tt
-  scoped (not t) h = scoped t h
-  scoped (group t) h = scoped t h
-  scoped (join b t u) h =
-      let k = both (known (ss ++ cs) s t) (known (ss ++ cs) s u) h in
-      scoped-joined b _ _ (scoped t (k .0)) (scoped u (k .1))
+  -- what a formula means names what there is
+  scoped : (s : Bytes) (t : Tree) (x : Expr) → Means ss cs s t x → Scoped (bitsOf ss) (bitsOf cs) x
+  scoped s t x (one-bit p n r d) = bit-scoped r 0 1 (run-fits (take n (drop p s)) r 1 d) (omega arith)
+  scoped s t x (bit-of p n i w r d l) = bit-scoped r i w (run-fits (take n (drop p s)) r w d) l
+  scoped s t x (compared p n q m w a b d e) = (run-fits (take n (drop p s)) a w d, run-fits (take m (drop q s)) b w e)
+  scoped s t x is-zero = tt
+  scoped s t x is-one = tt
+  scoped s t x (inverted e y h) = scoped s e y h
+  scoped s t x (bracketed e y h) = scoped s e y h
+  scoped s t x (both e f y z h k) = (scoped s e y h, scoped s f z k)
+  scoped s t x (some e f y z h k) = (scoped s e y h, scoped s f z k)
+  scoped s t x (just-one e f y z h k) = (scoped s e y h, scoped s f z k)
+  scoped s t x (both-alike e f y z h k) = (scoped s e y h, scoped s f z k)
 
-  module _ (x : Expr) (f : FormulaSound ss cs s x) where
-    fits-formula : Scoped (length ss) (length cs) x
-    fits-formula = rw (f .means) (scoped (f .parse) (f .names-known))
+  module _ (s : Bytes) (x : Expr) (f : FormulaSound ss cs s x) where
+    fits-formula : Scoped (bitsOf ss) (bitsOf cs) x
+    fits-formula = scoped s (f .parse) x (f .means)
 
-    fine : judgedFormula (ss ++ cs) s ≡ Fine
+    fine : judgedFormula (placed 0 (ss ++ cs)) s ≡ Fine
     unfolding judgedTree
-    fine = rw (f .parsed, le-ltb 16 (depthOf (f .parse)) (f .shallow), f .names-known)
+    fine = rw (f .parsed, le-ltb 16 (depthOf (f .parse)) (f .shallow), f .names-known, f .widths-fit)
 
-    means : treeExpr (length ss) (ss ++ cs) s (treeOf s) ≡ x
+    means : treeExpr (bitsOf ss) (placed 0 (ss ++ cs)) s (treeOf s) ≡ x
     unfolding treeExpr
-    means = rw (f .parsed) (sym (f .means))
+    means = rw (f .parsed) (sym (f .resolves))
+
+-- the names of a graph keep to the limits
+placed-bounded : (p : ℕ) (xs : List Name) → EachWidth xs → p + bitsOf xs ≤ 69 → Bounded (placed p xs)
+unfolding placed bitsOf
+placed-bounded p [] h l = tt
+placed-bounded p (x ∷ xs) h l = (omega arith, h .0 .most, placed-bounded (p + x .width) xs (h .1) (omega arith))
 
 -- ---- edges
-module _ (text : Bytes) (ss cs vs : List Bytes) (t : Bool) (a : Arc) (e : Edge) (w : EdgeSound text ss cs vs t a e) where
-  edge-held : edgeIn text (ss ++ cs) (length ss) a ≡ withMark t e
+module _ (text : Bytes) (ss cs : List Name) (vs : List Bytes) (t : Bool) (a : Arc) (e : Edge) (w : EdgeSound text ss cs vs t a e) where
+  edge-held : edgeIn text (placed 0 (ss ++ cs)) (bitsOf ss) a ≡ withMark t e
   unfolding edgeIn
   edge-held =
       rw (
@@ -87,7 +89,7 @@ module _ (text : Bytes) (ss cs vs : List Bytes) (t : Bool) (a : Arc) (e : Edge) 
         means ss cs (e .consequentText) (e .consequent) (w .consequent-sound),
       )
 
-  arc-good : ArcGood text (ss ++ cs) (length vs) a
+  arc-good : ArcGood text (placed 0 (ss ++ cs)) (length vs) a
   arc-good =
       record {
         from = rw (w .from-is) (w .from-known);
@@ -95,7 +97,7 @@ module _ (text : Bytes) (ss cs vs : List Bytes) (t : Bool) (a : Arc) (e : Edge) 
         right-fine = rw (w .consequent-at .bytes) (fine ss cs (e .consequentText) (e .consequent) (w .consequent-sound));
       }
 
-  edge-fits : EdgeFits (length ss) (length cs) (length vs) e
+  edge-fits : EdgeFits (bitsOf ss) (bitsOf cs) (length vs) e
   edge-fits =
       record {
         antecedent = fits-formula ss cs (e .antecedentText) (e .antecedent) (w .antecedent-sound);
@@ -107,7 +109,7 @@ module _ (text : Bytes) (ss cs vs : List Bytes) (t : Bool) (a : Arc) (e : Edge) 
 noEdge : Edge
 noEdge = record { from = 0; to = 0; marked = false; antecedent = G.truth false; consequent = G.truth false; antecedentText = []; consequentText = [] }
 
-from-at : (text : Bytes) (ns : List Bytes) (s : ℕ) (arcs : List Arc) (d : Edge) (i : ℕ) → i < length arcs → getD (edgesFrom text ns s arcs) i d ≡ edgeIn text ns s (getD arcs i noArc)
+from-at : (text : Bytes) (ns : List Declared) (s : ℕ) (arcs : List Arc) (d : Edge) (i : ℕ) → i < length arcs → getD (edgesFrom text ns s arcs) i d ≡ edgeIn text ns s (getD arcs i noArc)
 from-at text ns s [] d i h = absurd (omega arith)
 from-at text ns s (a ∷ arcs) d zero h = refl
 from-at text ns s (a ∷ arcs) d (suc i) h = from-at text ns s arcs d i (omega arith)
@@ -118,35 +120,43 @@ all-fit s k v (e ∷ es) h = (h 0 (omega arith), all-fit s k v es (λ i l. h (su
 
 -- ---- an accepted text
 module _ (text : Bytes) {graph : Graph} (read : graphOf text ≡ accepted graph) where
-  names-held : namesIn text (heldOf text graph) ≡ graph .signals ++ graph .constants
+  names-held : namesIn text (heldOf text graph) ≡ namesOf graph
   unfolding heldOf heldAs
   names-held = sound text read .names-held
 
   pub edges-held : edgesIn text (heldOf text graph) ≡ chosen graph (graph .edges)
-  unfolding edgesIn heldOf heldAs
+  unfolding edgesIn heldOf heldAs signalBits
   edges-held =
       let w = sound text read in
       let arcs = heldOf text graph .arcs in
       let E = length (graph .edges) in
-      let ns = graph .signals ++ graph .constants in
-      let n : length (edgesFrom text ns (length (graph .signals)) (take E arcs)) ≡ E = from-length text ns (length (graph .signals)) (take E arcs) ∙ rw length-take (omega (arith, w .arcs-long, w .edges-few)) in
+      let ns = namesOf graph in
+      let n : length (edgesFrom text ns (bitsOf (graph .signals)) (take E arcs)) ≡ E = from-length text ns (bitsOf (graph .signals)) (take E arcs) ∙ rw length-take (omega (arith, w .arcs-long, w .edges-few)) in
       let m : length (take E arcs) ≡ E = rw length-take (omega (arith, w .arcs-long, w .edges-few)) in
       rw names-held
-      (ext-getD (choose graph noEdge) (edgesFrom text ns (length (graph .signals)) (take E arcs)) (chosen graph (graph .edges)) (n ∙ sym (length-chosen graph (graph .edges)))
+      (ext-getD (choose graph noEdge) (edgesFrom text ns (bitsOf (graph .signals)) (take E arcs)) (chosen graph (graph .edges)) (n ∙ sym (length-chosen graph (graph .edges)))
       (λ i h.
       let h2 : i < E = omega (arith, n) in
-      from-at text ns (length (graph .signals)) (take E arcs) (choose graph noEdge) i (omega (arith, m))
+      from-at text ns (bitsOf (graph .signals)) (take E arcs) (choose graph noEdge) i (omega (arith, m))
       ∙ rw (getD-take E arcs i noArc h2)
       (edge-held text (graph .signals) (graph .constants) (graph .vertices) _ (getD arcs i noArc) (getD (graph .edges) i noEdge) (w .edge-at i noEdge h2))
       ∙ sym (List·getD-map (choose graph) (graph .edges) i noEdge)))
 
+  pub bounded : Bounded (namesIn text (heldOf text graph))
+  unfolding signalBits constantBits
+  bounded =
+      let w = sound text read in
+      rw names-held (placed-bounded 0 (graph .signals ++ graph .constants) (w .widths) (omega (arith, w .signals-few, w .constants-few, bits-append (graph .signals) (graph .constants))))
+
   pub good : GraphGood text (heldOf text graph)
-  unfolding heldOf heldAs
+  unfolding heldOf heldAs signalBits constantBits
   good =
       let w = sound text read in
       record {
         each = λ i h. rw names-held
             (arc-good text (graph .signals) (graph .constants) (graph .vertices) _ (getD (heldOf text graph .arcs) i noArc) (getD (graph .edges) i noEdge) (w .edge-at i noEdge h));
+        bounded = bounded;
+        named = omega (arith, bits-some (graph .signals ++ graph .constants) (w .widths), bits-append (graph .signals) (graph .constants), length-append (graph .signals) (graph .constants));
         signals = w .signals-few;
         constants = w .constants-few;
         vertices = w .vertices-few;
@@ -155,12 +165,13 @@ module _ (text : Bytes) {graph : Graph} (read : graphOf text ≡ accepted graph)
       }
 
   pub fits : Fits graph
+  unfolding signalBits constantBits
   fits =
       let w = sound text read in
       record {
         constants = w .constants-few;
         signals = w .signals-few;
         vertices = w .some-vertex;
-        edges = all-fit (length (graph .signals)) (length (graph .constants)) (length (graph .vertices)) (graph .edges)
+        edges = all-fit (signalBits graph) (constantBits graph) (length (graph .vertices)) (graph .edges)
             (λ i h. edge-fits text (graph .signals) (graph .constants) (graph .vertices) _ (getD (heldOf text graph .arcs) i noArc) (getD (graph .edges) i noEdge) (w .edge-at i noEdge h));
       }

@@ -1,6 +1,7 @@
 -- The laws that belong to no one function.
 mod AddingLaws
 mod TermLaws
+mod AlikeLaws
 mod FormulaLaws
 mod EdgeLaws
 mod BuildLaws

@@ -7,7 +7,7 @@ use Prim.Native.Nat.{ℕ, _+_, _*_}
 use lib.Dec.{leb}
 use lib.ListN.{length, drop}
 use Rattle.text.specs.declared.Refusal.{Refusal}
-use Rattle.assertion.specs.Graph.{Bytes, Graph}
+use Rattle.assertion.specs.Graph.{Bytes, Graph, signalBits, constantBits}
 use Rattle.graph.specs.Reading as reading
 use Rattle.graph.specs.Reading.{Outcome, refused, accepted, graphOf}
 use Rattle.circuit.specs.Build.{gatesOf}
@@ -25,7 +25,7 @@ refusalOf ShortBuffer = record { number = 12; line = 0 }
 
 -- M = I + L + A of the monitor of a graph
 unfoldable pub variablesOf : Graph → ℕ
-variablesOf g = (1 + length (g .signals)) + (length (g .constants) + 2 * length (g .edges)) + length (gatesOf g)
+variablesOf g = (1 + signalBits g) + (constantBits g + 2 * length (g .edges)) + length (gatesOf g)
 
 -- what a build answers, and what it leaves
 pub record BuildEnd : Type 0 where

@@ -10,6 +10,7 @@ use Rattle.graph.specs.declared.Cause as graph
 use Rattle.netlist.specs.Valid.{isNetlist}
 use Rattle.circuit.specs.Build.{gatesOf}
 use Rattle.circuit.specs.Numbers.{numbersOf}
+use Rattle.circuit.specs.Claims.{AlikeMeans}
 use Rattle.demand.specs.Demand.{Demand3}
 use Rattle.demand.specs.Forms.{EitherForm}
 use Rattle.builder.specs.declared.Cause.the-variants.{GraphText, TooManyVariables, ShortBuffer}
@@ -33,5 +34,7 @@ pub record BuildMeans (text : Bytes) (net : List ℕ) : Type 0 where
   pub refuses : (g : Graph) → graphOf text ≡ accepted g → isNetlist (numbersOf g) ≡ false
       → buildOf text net ≡ buildEnd (Refused TooManyVariables) net
   pub unread : (cause : graph.Cause) → graphOf text ≡ refused cause → buildOf text net ≡ buildEnd (Refused (GraphText cause)) net
+  -- the gates of `==` stand in the order that document 02 says
+  pub compared : AlikeMeans
   -- the calls of its list may pass the tally by value or lend it
   pub forms : EitherForm

@@ -5,13 +5,16 @@ ghost use lib.ListN.{length};
 ghost use Rattle.assertion.specs.Graph.{Graph};
 ghost use Rattle.graph.specs.Reading.{accepted, graphOf};
 ghost use Rattle.graph.specs.Held.{heldOf};
-ghost use Rattle.graph.specs.Private.Steps.{Kept};
+ghost use Rattle.graph.specs.Private.Steps.{listed, Kept};
 ghost use Rattle.circuit.specs.Count.{gateFormula};
-ghost use Rattle.builder.specs.Private.Machine.{summed, wordGates, gatesAt, fieldGates, arcGates, isReached, terminalAt, reachedFrom};
+ghost use Rattle.builder.specs.Private.Machine.{Bounded, summed, byteGates, wordGates, gatesAt, fieldGates, arcGates, isReached, terminalAt, reachedFrom};
+use crate::formulas::ALIKE;
 use crate::formulas::AND;
-use crate::formulas::NO_NAME;
+use crate::formulas::BITS;
+use crate::formulas::BYTES;
 use crate::formulas::OR;
 use crate::formulas::XOR;
+use crate::formulas::found_in;
 use graph::Arc;
 use graph::CheckedGraph;
 use graph::part;
@@ -19,14 +22,10 @@ use graph::part;
 // The byte of `=`.
 const SAME: usize = 61;
 
-// The gates of a word.
-fn word_gates(w: usize) -> usize
-    ensures { λ r. ⌜ (r ≡ wordGates w) × (r ≤ 3) ⌝ }
+// The gates of a byte.
+fn byte_gates(b: usize) -> usize
+    ensures { λ r. ⌜ (r ≡ byteGates b) × (r ≤ 3) ⌝ }
 {
-    if w < NO_NAME {
-        return 0;
-    }
-    let b = w - NO_NAME;
     if b == AND {
         return 1;
     }
@@ -42,49 +41,76 @@ fn word_gates(w: usize) -> usize
     0
 }
 
+// The gates of a word.
+fn word_gates(text: &[u8], symbols: &[usize], total: usize, field: &[u8], w: usize) -> usize
+    requires { ⌜ Bounded (listed (now text) (now symbols) total) ⌝ }
+    ensures { λ r. ⌜ (r ≡ wordGates (listed (now (text .entry)) (now (symbols .entry)) total) (now (field .entry)) w) × (r ≤ 63) ⌝ }
+{
+    if w < BYTES {
+        return 0;
+    }
+    if w < BITS {
+        return byte_gates(w - BYTES);
+    }
+    if w < ALIKE {
+        return 0;
+    }
+    let left = found_in(text, symbols, total, field, (w - ALIKE) / BYTES);
+    less(4 * left.width, 1)
+}
+
 // The gates of the first `count` words.
-fn words_gates(words: &[u16], count: usize) -> usize
-    requires { ⌜ (count ≤ 255) × (count ≤ length (now words)) ⌝ }
-    ensures { λ r. ⌜ (r ≡ summed (gatesAt (now (words .entry))) 0 count) × (r ≤ 765) ⌝ }
+fn words_gates(
+    text: &[u8],
+    symbols: &[usize],
+    total: usize,
+    field: &[u8],
+    words: &[u32],
+    count: usize,
+) -> usize
+    requires { ⌜ Bounded (listed (now text) (now symbols) total) × (count ≤ 255) × (count ≤ length (now words)) ⌝ }
+    ensures { λ r. ⌜ (r ≡ summed (gatesAt (listed (now (text .entry)) (now (symbols .entry)) total) (now (field .entry)) (now (words .entry))) 0 count) × (r ≤ 16065) ⌝ }
 {
     let mut sum: usize = 0;
     let mut i = 0;
     while i < count {
-        sum += word_gates(words[i] as usize);
+        sum += word_gates(text, symbols, total, field, words[i] as usize);
         i += 1;
     }
     sum
 }
 
 // The gates of the formula that stands in the text from `at` on, n bytes long.
-fn field_gates(text: &[u8], at: usize, n: usize) -> usize
-    ensures { λ r. ⌜ (r ≡ fieldGates (now (text .entry)) at n) × (r ≤ 765) ⌝ }
+fn field_gates(text: &[u8], symbols: &[usize], total: usize, at: usize, n: usize) -> usize
+    requires { ⌜ Bounded (listed (now text) (now symbols) total) ⌝ }
+    ensures { λ r. ⌜ (r ≡ fieldGates (now (text .entry)) (listed (now (text .entry)) (now (symbols .entry)) total) at n) × (r ≤ 16065) ⌝ }
 {
     let field = part(text, at, n);
     let read = formula::read(field);
     let count = read.count;
-    words_gates(&read.words, count)
+    words_gates(text, symbols, total, field, &read.words, count)
 }
 
 // The gates of an edge's formulas.
-fn edge_gates(text: &[u8], e: Arc) -> usize
-    ensures { λ r. ⌜ (r ≡ fieldGates (now (text .entry)) (e .left) (e .lefts) + fieldGates (now (text .entry)) (e .right) (e .rights)) × (r ≤ 1530) ⌝ }
+fn edge_gates(text: &[u8], symbols: &[usize], total: usize, e: Arc) -> usize
+    requires { ⌜ Bounded (listed (now text) (now symbols) total) ⌝ }
+    ensures { λ r. ⌜ (r ≡ fieldGates (now (text .entry)) (listed (now (text .entry)) (now (symbols .entry)) total) (e .left) (e .lefts) + fieldGates (now (text .entry)) (listed (now (text .entry)) (now (symbols .entry)) total) (e .right) (e .rights)) × (r ≤ 32130) ⌝ }
 {
-    let left = field_gates(text, e.left, e.lefts);
-    let right = field_gates(text, e.right, e.rights);
+    let left = field_gates(text, symbols, total, e.left, e.lefts);
+    let right = field_gates(text, symbols, total, e.right, e.rights);
     left + right
 }
 
 // The gates of all formulas.
 fn formulas_gates(text: &[u8], g: CheckedGraph) -> usize
-    requires { ⌜ g .edges ≤ 128 ⌝ }
-    ensures { λ r. ⌜ (r ≡ summed (arcGates (now (text .entry)) (g .arcs)) 0 (g .edges)) × (r ≤ 1530 * 128) ⌝ }
+    requires { ⌜ Bounded (listed (now text) (g .names) (g .named)) × (g .edges ≤ 128) ⌝ }
+    ensures { λ r. ⌜ (r ≡ summed (arcGates (now (text .entry)) (listed (now (text .entry)) (g .names) (g .named)) (g .arcs)) 0 (g .edges)) × (r ≤ 32130 * 128) ⌝ }
 {
     let mut sum: usize = 0;
     let mut i = 0;
     while i < g.edges {
         let e = g.arcs[i];
-        sum += edge_gates(text, e);
+        sum += edge_gates(text, &g.names, g.named, e);
         i += 1;
     }
     sum
@@ -146,7 +172,7 @@ fn less(a: usize, b: usize) -> usize
 
 // How many gates the monitor of a checked graph has.
 pub(crate) fn gate_count(text: &[u8], g: CheckedGraph) -> usize
-    requires { ⌜ Kept g ⌝ }
+    requires { ⌜ Bounded (listed (now text) (g .names) (g .named)) × Kept g ⌝ }
     ensures { λ r. ⌜ ((graph : Graph) → graphOf (now (text .entry)) ≡ accepted graph → g ≡ heldOf (now (text .entry)) graph → r ≡ gateFormula graph) ⌝ }
 {
     let edges = g.edges;

@@ -3,6 +3,7 @@ ghost use Prim.Native.Nat.{_≤_, _<_};
 ghost use lib.ListN.{length, getD, take};
 ghost use Rattle.graph.specs.Held.{noArc};
 ghost use Rattle.builder.specs.Private.Adding.{Room};
+ghost use Rattle.builder.specs.Private.Machine.{Bounded};
 ghost use Rattle.builder.specs.Private.Edges.{namesIn, edgeIn, edgesIn, ArcGood, GraphGood, edgeOf, edgesOf, EdgeMade, EdgesMade, two};
 ghost use Rattle.circuit.specs.Build.{edgePiece};
 use crate::Both;
@@ -25,13 +26,13 @@ fn put_edge(
     happy: Literal,
     condemned: Literal,
 ) -> Both
-    requires { ⌜ (ArcGood (now text) (namesIn (now text) g) (g .vertices) a) × (g .signals ≤ 63) × (g .constants ≤ 6)
+    requires { ⌜ (ArcGood (now text) (namesIn (now text) g) (g .vertices) a) × Bounded (namesIn (now text) g)
         × (Room (f .0) (now out) (n .0) (length (edgePiece (g .signals) (n .0) (two (happy .0) (condemned .0)) (edgeIn (now text) (namesIn (now text) g) (g .signals) a) .gates))) ⌝ }
     ensures { λ r. ⌜ EdgeMade (f .0) (now (out .entry)) (now (out .exit)) (n .0) (r .next .0) (r .happy .0) (r .condemned .0)
         (edgePiece (g .signals) (n .0) (two (happy .0) (condemned .0)) (edgeIn (now (text .entry)) (namesIn (now (text .entry)) g) (g .signals) a)) ⌝ }
 {
     let s = g.signals;
-    let total = s + g.constants;
+    let total = g.named;
     let p = put_formula(
         out,
         f,

@@ -1,31 +1,42 @@
 // The gates of a formula: its words, operands before their operator, run over a stack of literals.
 ghost use mathlib.Core.Path.{_≡_};
 ghost use mathlib.Core.List.{[], _∷_};
-ghost use Prim.Native.Nat.{_≤_};
+ghost use Prim.Native.Nat.{_+_, _≤_};
 ghost use lib.ListN.{length, take};
 ghost use Rattle.formula.specs.Grammar.{treeOf};
 ghost use Rattle.graph.specs.Reading.{judgedFormula, treeExpr};
-ghost use Rattle.graph.specs.Private.Steps.{listed};
+ghost use Rattle.graph.specs.Private.Steps.{listed, nameFound};
 ghost use Rattle.graph.specs.declared.Judged.the-variants.{Fine};
 ghost use Rattle.circuit.specs.Gates.{inv, gate, xorOf};
 ghost use Rattle.circuit.specs.Build.{formula};
 ghost use Rattle.builder.specs.Private.Adding.{Added, Room};
-ghost use Rattle.builder.specs.Private.Machine.{Makes, nameLiteral, operated, byteMade, wordMade, taken, program, Enough, Ended};
+ghost use Rattle.builder.specs.Private.Machine.{Makes, Bounded, bitAt, nameLiteral, differBits, alikeMade, comparedBy, operated, byteMade, wordMade, taken, program, Enough, Ended};
 use crate::Made;
+use crate::chains::TERMINAL;
+use crate::chains::put_accept;
 use crate::gates::FALSE;
 use crate::gates::SIGNAL;
 use crate::gates::after;
 use crate::gates::inverse;
 use crate::gates::literal;
 use crate::gates::put_gate;
+use graph::FoundName;
 use graph::part;
 use netlist::Literal;
 use netlist::Variable;
 
-// A word of a formula below this is a name: its first place and its length.
-pub(crate) const NO_NAME: usize = 4096;
+// A word of a formula below this is a name, by its first place and its length; from here on it is a byte.
+pub(crate) const BYTES: usize = 4096;
 
 const PLACE: usize = 16;
+
+// From here on a word is one bit of a name, and from there on two names compared.
+pub(crate) const BITS: usize = 8192;
+
+pub(crate) const ALIKE: usize = 16777216;
+
+// No name has more bits.
+const WIDEST: usize = 16;
 
 // The bytes of the other words.
 const ZERO: usize = 48;
@@ -43,15 +54,42 @@ pub(crate) const XOR: usize = 94;
 // Two literals at the bottom that no word takes, and one for each word.
 const DEEPEST_STACK: usize = 257;
 
-// The literal of the name that a word gives.
-fn name_literal(text: &[u8], starts: &[usize], total: usize, field: &[u8], w: usize) -> Literal
-    requires { ⌜ total ≤ 69 ⌝ }
-    ensures { λ r. ⌜ r .0 ≡ nameLiteral (listed (now (text .entry)) (now (starts .entry)) total) (now (field .entry)) w ⌝ }
+// The name of a word, looked up.
+pub(crate) fn found_in(
+    text: &[u8],
+    symbols: &[usize],
+    total: usize,
+    field: &[u8],
+    w: usize,
+) -> FoundName
+    ensures { λ r. ⌜ r ≡ nameFound (listed (now (text .entry)) (now (symbols .entry)) total) (now (field .entry)) w ⌝ }
 {
     let name = part(field, w / PLACE, w % PLACE);
-    let found = graph::look_up(text, starts, total, name);
-    let place = found.place;
-    literal(after(SIGNAL, place), false)
+    graph::look_up_name(text, symbols, total, name)
+}
+
+// The literal of bit i of a name whose first bit has this place.
+fn bit_literal(place: usize, i: usize) -> Literal
+    requires { ⌜ 2 + place + i ≤ 4096 ⌝ }
+    ensures { λ r. ⌜ r .0 ≡ bitAt place i ⌝ }
+{
+    literal(after(SIGNAL, place + i), false)
+}
+
+// The literal of bit i of the name that a word gives.
+fn name_literal(
+    text: &[u8],
+    symbols: &[usize],
+    total: usize,
+    field: &[u8],
+    w: usize,
+    i: usize,
+) -> Literal
+    requires { ⌜ Bounded (listed (now text) (now symbols) total) × (i ≤ 2047) ⌝ }
+    ensures { λ r. ⌜ r .0 ≡ nameLiteral (listed (now (text .entry)) (now (symbols .entry)) total) (now (field .entry)) w i ⌝ }
+{
+    let found = found_in(text, symbols, total, field, w);
+    bit_literal(found.place, i)
 }
 
 // Neither of two: one gate.
@@ -122,37 +160,102 @@ fn put_byte(out: &mut [u16], f: Variable, n: Variable, b: usize, x: Literal, y: 
     put_operator(out, f, n, b, x, y)
 }
 
+// The bits of two names, lowest first: three gates each, and the literals that tell that they differ.
+fn put_bits(
+    out: &mut [u16],
+    f: Variable,
+    n: Variable,
+    p: usize,
+    q: usize,
+    width: usize,
+    differ: &mut [u16],
+) -> Variable
+    requires { ⌜ (p ≤ 69) × (q ≤ 69) × (width ≤ length (now differ)) × (width ≤ 16) × Room (f .0) (now out) (n .0) (length (differBits (n .0) p q 0 width .gates)) ⌝ }
+    ensures { λ r. ⌜ Added (f .0) (now (out .entry)) (now (out .exit)) (n .0) (r .0) (differBits (n .0) p q 0 width .gates)
+        × (take width (now (differ .exit)) ≡ differBits (n .0) p q 0 width .outs) ⌝ }
+{
+    let mut next = n;
+    let mut i = 0;
+    while i < width {
+        let x = literal(after(next, 2), false);
+        next = put_xor(out, f, next, bit_literal(p, i), bit_literal(q, i));
+        differ[i] = x.0;
+        i += 1;
+    }
+    next
+}
+
+// Two names of a width compared, by the places of their first bits: alike where no bit differs.
+fn put_alike(out: &mut [u16], f: Variable, n: Variable, p: usize, q: usize, width: usize) -> Made
+    requires { ⌜ (p ≤ 69) × (q ≤ 69) × (width ≤ 16) × Room (f .0) (now out) (n .0) (length (alikeMade (n .0) p q width .gates)) ⌝ }
+    ensures { λ r. ⌜ Makes (f .0) (now (out .entry)) (now (out .exit)) (n .0) r (alikeMade (n .0) p q width) ⌝ }
+{
+    let mut differ = [0u16; WIDEST];
+    let each = [TERMINAL; WIDEST];
+    let next = put_bits(out, f, n, p, q, width, &mut differ);
+    put_accept(out, f, next, &each, &differ, width)
+}
+
+// Two names compared, by their word.
+fn put_compared(
+    out: &mut [u16],
+    f: Variable,
+    n: Variable,
+    text: &[u8],
+    symbols: &[usize],
+    total: usize,
+    field: &[u8],
+    w: usize,
+) -> Made
+    requires { ⌜ Bounded (listed (now text) (now symbols) total) × (16777216 ≤ w) × Room (f .0) (now out) (n .0) (length (comparedBy (listed (now text) (now symbols) total) (now field) w (n .0) .gates)) ⌝ }
+    ensures { λ r. ⌜ Makes (f .0) (now (out .entry)) (now (out .exit)) (n .0) r (comparedBy (listed (now (text .entry)) (now (symbols .entry)) total) (now (field .entry)) w (n .0)) ⌝ }
+{
+    let left = found_in(text, symbols, total, field, (w - ALIKE) / BYTES);
+    let right = found_in(text, symbols, total, field, w % BYTES);
+    put_alike(out, f, n, left.place, right.place, left.width)
+}
+
 // One word: its gates, and the literal that it puts on the stack.
 fn put_word(
     out: &mut [u16],
     f: Variable,
     n: Variable,
     text: &[u8],
-    starts: &[usize],
+    symbols: &[usize],
     total: usize,
     field: &[u8],
     w: usize,
     x: Literal,
     y: Literal,
 ) -> Made
-    requires { ⌜ (total ≤ 69) × Room (f .0) (now out) (n .0) (length (wordMade (listed (now text) (now starts) total) (now field) w (n .0) (x .0) (y .0) .gates)) ⌝ }
-    ensures { λ r. ⌜ Makes (f .0) (now (out .entry)) (now (out .exit)) (n .0) r (wordMade (listed (now (text .entry)) (now (starts .entry)) total) (now (field .entry)) w (n .0) (x .0) (y .0)) ⌝ }
+    requires { ⌜ Bounded (listed (now text) (now symbols) total) × Room (f .0) (now out) (n .0) (length (wordMade (listed (now text) (now symbols) total) (now field) w (n .0) (x .0) (y .0) .gates)) ⌝ }
+    ensures { λ r. ⌜ Makes (f .0) (now (out .entry)) (now (out .exit)) (n .0) r (wordMade (listed (now (text .entry)) (now (symbols .entry)) total) (now (field .entry)) w (n .0) (x .0) (y .0)) ⌝ }
 {
-    if w < NO_NAME {
-        let lit = name_literal(text, starts, total, field, w);
+    if w < BYTES {
+        let lit = name_literal(text, symbols, total, field, w, 0);
         return Made { next: n, lit };
     }
-    put_byte(out, f, n, w - NO_NAME, x, y)
+    if w < BITS {
+        return put_byte(out, f, n, w - BYTES, x, y);
+    }
+    if w < ALIKE {
+        let lit = name_literal(text, symbols, total, field, w % BYTES, w / BITS - 1);
+        return Made { next: n, lit };
+    }
+    put_compared(out, f, n, text, symbols, total, field, w)
 }
 
 // How many literals a word takes from the stack.
 fn taken_by(w: usize) -> usize
     ensures { λ r. ⌜ r ≡ taken w ⌝ }
 {
-    if w < NO_NAME {
+    if w < BYTES {
         return 0;
     }
-    let b = w - NO_NAME;
+    if BITS <= w {
+        return 0;
+    }
+    let b = w - BYTES;
     if b == ZERO {
         return 0;
     }
@@ -171,14 +274,14 @@ fn put_words(
     f: Variable,
     n: Variable,
     text: &[u8],
-    starts: &[usize],
+    symbols: &[usize],
     total: usize,
     field: &[u8],
-    words: &[u16],
+    words: &[u32],
     count: usize,
 ) -> Made
-    requires { ⌜ (total ≤ 69) × (count ≤ 255) × (count ≤ length (now words)) × Enough 2 (take count (now words)) × Room (f .0) (now out) (n .0) (length (program (listed (now text) (now starts) total) (now field) (take count (now words)) (n .0) .gates)) ⌝ }
-    ensures { λ r. ⌜ Ended (f .0) (now (out .entry)) (now (out .exit)) (n .0) r (program (listed (now (text .entry)) (now (starts .entry)) total) (now (field .entry)) (take count (now (words .entry))) (n .0)) ⌝ }
+    requires { ⌜ Bounded (listed (now text) (now symbols) total) × (count ≤ 255) × (count ≤ length (now words)) × Enough 2 (take count (now words)) × Room (f .0) (now out) (n .0) (length (program (listed (now text) (now symbols) total) (now field) (take count (now words)) (n .0) .gates)) ⌝ }
+    ensures { λ r. ⌜ Ended (f .0) (now (out .entry)) (now (out .exit)) (n .0) r (program (listed (now (text .entry)) (now (symbols .entry)) total) (now (field .entry)) (take count (now (words .entry))) (n .0)) ⌝ }
 {
     let mut stack = [0u16; DEEPEST_STACK];
     let mut height = 2;
@@ -193,7 +296,7 @@ fn put_words(
             f,
             next,
             text,
-            starts,
+            symbols,
             total,
             field,
             w,
@@ -213,23 +316,23 @@ fn put_words(
     }
 }
 
-// A formula's gates: `signals` of the names are signals, and the others constants.
+// A formula's gates: `signals` of the bits are the signals', and the others the constants'.
 pub(crate) fn put_formula(
     out: &mut [u16],
     f: Variable,
     n: Variable,
     text: &[u8],
-    starts: &[usize],
+    symbols: &[usize],
     signals: usize,
     total: usize,
     field: &[u8],
 ) -> Made
-    requires { ⌜ (judgedFormula (listed (now text) (now starts) total) (now field) ≡ Fine) × (signals ≤ total) × (total ≤ 69)
-        × Room (f .0) (now out) (n .0) (length (formula signals (n .0) (treeExpr signals (listed (now text) (now starts) total) (now field) (treeOf (now field))) .gates)) ⌝ }
-    ensures { λ r. ⌜ Added (f .0) (now (out .entry)) (now (out .exit)) (n .0) (r .next .0) (formula signals (n .0) (treeExpr signals (listed (now (text .entry)) (now (starts .entry)) total) (now (field .entry)) (treeOf (now (field .entry)))) .gates)
-        × (r .lit .0 ≡ formula signals (n .0) (treeExpr signals (listed (now (text .entry)) (now (starts .entry)) total) (now (field .entry)) (treeOf (now (field .entry)))) .out) ⌝ }
+    requires { ⌜ (judgedFormula (listed (now text) (now symbols) total) (now field) ≡ Fine) × Bounded (listed (now text) (now symbols) total)
+        × Room (f .0) (now out) (n .0) (length (formula signals (n .0) (treeExpr signals (listed (now text) (now symbols) total) (now field) (treeOf (now field))) .gates)) ⌝ }
+    ensures { λ r. ⌜ Added (f .0) (now (out .entry)) (now (out .exit)) (n .0) (r .next .0) (formula signals (n .0) (treeExpr signals (listed (now (text .entry)) (now (symbols .entry)) total) (now (field .entry)) (treeOf (now (field .entry)))) .gates)
+        × (r .lit .0 ≡ formula signals (n .0) (treeExpr signals (listed (now (text .entry)) (now (symbols .entry)) total) (now (field .entry)) (treeOf (now (field .entry)))) .out) ⌝ }
 {
     let read = formula::read(field);
     let count = read.count;
-    put_words(out, f, n, text, starts, total, field, &read.words, count)
+    put_words(out, f, n, text, symbols, total, field, &read.words, count)
 }

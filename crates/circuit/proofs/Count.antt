@@ -8,10 +8,10 @@ use lib.ListN.{length, getD, length-append}
 use lib.Dec.{eqb}
 use borrow.Author.Tests.{eq-eqb, ne-eqb}
 use native.Mathlib.Decide.{ℕ-discrete}
-use Rattle.assertion.specs.Graph.{Expr, truth, signal, constant, neg, conj, disj, xor, same, Edge, Graph, isTerminal, operators}
+use Rattle.assertion.specs.Graph.{Expr, truth, signal, constant, neg, conj, disj, xor, same, alike, Run, Edge, Graph, signalBits, constantBits, isTerminal, operators}
 use Rattle.netlist.specs.Literals.{literalOf}
 use Rattle.circuit.specs.Gates.{lit, inv, Piece, andOf, orOf, xorOf, sameOf, after}
-use Rattle.circuit.specs.Build.{init, Two, formula, masks, orFrom, orAll, happyTerms, condemnedTerms, happyOr, condemnedOr, vertexPieces, tokenGates, edgePiece, edgePieces, andFrom, andAll, acceptTerms, firstEdgeLatch, firstGate, masked, gathered, judged, accepted, gatesOf}
+use Rattle.circuit.specs.Build.{init, Two, Bits, sameBits, alikeOf, formula, masks, orFrom, orAll, happyTerms, condemnedTerms, happyOr, condemnedOr, vertexPieces, tokenGates, edgePiece, edgePieces, andFrom, andAll, acceptTerms, firstEdgeLatch, firstGate, masked, gathered, judged, accepted, gatesOf}
 use Rattle.circuit.proofs.Fits.{AllFit, Fits}
 use Rattle.circuit.specs.Count.{formulaGates, allFormulaGates, allOperators, incoming, entered, terminals, gateFormula}
 
@@ -20,7 +20,35 @@ after-length op m n p q h =
     let r : Piece = op (n + length (p .gates) + length (q .gates)) (p .out) (q .out) in
     omega (arith, length-append (p .gates) (q .gates ++ r .gates), length-append (q .gates) (r .gates), h (n + length (p .gates) + length (q .gates)) (p .out) (q .out))
 
-formula-length : (x : Expr) (s n : ℕ) → length (formula s n x .gates) ≡ formulaGates x
+and-from-length : (ts : List ℕ) (n so : ℕ) → length (andFrom n so ts .gates) ≡ length ts
+and-from-length [] n so = refl
+and-from-length (t ∷ ts) n so = ap suc (and-from-length ts (suc n) (lit n))
+
+pub and-length : (ts : List ℕ) (n : ℕ) → length (andAll n ts .gates) ≡ length ts - 1
+and-length [] n = refl
+and-length (t ∷ ts) n = omega (arith, and-from-length ts n t)
+
+-- the gates of `==`: 3 for each bit, and one less than the bits
+pub bits-length : (w s n i : ℕ) (a b : Run) → (length (sameBits s n a b i w .gates) ≡ 3 * w) × (length (sameBits s n a b i w .outs) ≡ w)
+bits-length zero s n i a b = (refl, refl)
+bits-length (suc w) s n i a b =
+    let h = bits-length w s (n + 3) (suc i) a b in
+    (omega (arith, h .0), omega (arith, h .1))
+
+pub alike-length : (s n : ℕ) (a b : Run) (w : ℕ) → length (alikeOf s n a b w .gates) ≡ 4 * w - 1
+unfolding alikeOf
+alike-length s n a b w =
+    let p : Bits = sameBits s n a b 0 w in
+    let h = bits-length w s n 0 a b in
+    omega (
+      arith,
+      length-append (p .gates) (andAll (n + length (p .gates)) (p .outs) .gates),
+      and-length (p .outs) (n + length (p .gates)),
+      h .0,
+      h .1,
+    )
+
+pub formula-length : (x : Expr) (s n : ℕ) → length (formula s n x .gates) ≡ formulaGates x
 unfolding formula formulaGates
 formula-length (truth b) s n = refl
 formula-length (signal i) s n = refl
@@ -38,6 +66,7 @@ formula-length (xor a b) s n =
 formula-length (same a b) s n =
     let m = n + length (formula s n a .gates) in
     omega (arith, after-length sameOf 3 n (formula s n a) (formula s m b) (λ i x y. refl), formula-length a s n, formula-length b s m)
+formula-length (alike a b w) s n = alike-length s n a b w
 
 pub masks-length : (es : List Edge) (n l : ℕ) → (length (masks n l es .gates) ≡ 2 * length es) × (length (masks n l es .outs) ≡ length es)
 masks-length [] n l = (refl, refl)
@@ -52,14 +81,6 @@ or-from-length (t ∷ ts) n so = ap suc (or-from-length ts (suc n) (literalOf n 
 or-length : (ts : List ℕ) (n : ℕ) → length (orAll n ts .gates) ≡ length ts - 1
 or-length [] n = refl
 or-length (t ∷ ts) n = omega (arith, or-from-length ts n t)
-
-and-from-length : (ts : List ℕ) (n so : ℕ) → length (andFrom n so ts .gates) ≡ length ts
-and-from-length [] n so = refl
-and-from-length (t ∷ ts) n so = ap suc (and-from-length ts (suc n) (lit n))
-
-and-length : (ts : List ℕ) (n : ℕ) → length (andAll n ts .gates) ≡ length ts - 1
-and-length [] n = refl
-and-length (t ∷ ts) n = omega (arith, and-from-length ts n t)
 
 cond-length : (b : Bool) (t : ℕ) (ts : List ℕ) → length (cond b (t ∷ ts) ts) ≡ cond b 1 0 + length ts
 cond-length true t ts = omega arith
@@ -192,7 +213,7 @@ module _ (g : Graph) where
 
   pub judged-gates : (length (judged g .gates) ≡ 5 * length (g .edges) + allFormulaGates (g .edges)) × (length (judged g .outs) ≡ length (g .edges))
   unfolding judged
-  judged-gates = edges-length (g .edges) (length (g .signals)) (firstGate g + length (masked g .gates) + length (gathered g .gates)) (gathered g .outs)
+  judged-gates = edges-length (g .edges) (signalBits g) (firstGate g + length (masked g .gates) + length (gathered g .gates)) (gathered g .outs)
 
   accepted-gates : length (accepted g .gates) ≡ terminals g (g .edges) - 1
   unfolding accepted
@@ -210,7 +231,7 @@ module _ (g : Graph) where
         omega (
           arith,
           vertices (g .edges) (masked g .outs) (masked-gates .1) (length (g .vertices)) (firstGate g + length (masked g .gates)),
-          sum-all (g .edges) (length (g .signals)) (length (g .constants)) (length (g .vertices)) (fits .edges),
+          sum-all (g .edges) (signalBits g) (constantBits g) (length (g .vertices)) (fits .edges),
         )
 
     pub count : length (gatesOf g) ≡ gateFormula g
@@ -227,7 +248,7 @@ module _ (g : Graph) where
           accepted-gates,
           entered-le (length (g .vertices)) 0 (g .edges),
           later-le (length (g .vertices)) (g .edges),
-          sum-all (g .edges) (length (g .signals)) (length (g .constants)) (length (g .vertices)) (fits .edges),
+          sum-all (g .edges) (signalBits g) (constantBits g) (length (g .vertices)) (fits .edges),
         )
 
 -- ---- the bound
@@ -241,6 +262,7 @@ formula-most (conj a b) = omega (arith, formula-most a, formula-most b)
 formula-most (disj a b) = omega (arith, formula-most a, formula-most b)
 formula-most (xor a b) = omega (arith, formula-most a, formula-most b)
 formula-most (same a b) = omega (arith, formula-most a, formula-most b)
+formula-most (alike a b w) = omega arith
 
 formulas-most : (es : List Edge) → allFormulaGates es ≤ 3 * allOperators es
 formulas-most [] = omega arith

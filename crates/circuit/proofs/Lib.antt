@@ -9,6 +9,7 @@ pub mod Formulas
 pub mod Circuit
 pub mod Edges
 pub mod Count
+pub mod AlikeGates
 pub mod Weave
 pub mod Link
 pub mod Places

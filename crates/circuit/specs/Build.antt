@@ -5,11 +5,11 @@ use mathlib.Core.List.{List, [], _∷_, _++_}
 use lib.ListN.{length, getD}
 use lib.Dec.{eqb}
 use Rattle.netlist.specs.Literals.{literalOf}
-use Rattle.assertion.specs.Graph.{Expr, truth, signal, constant, neg, conj, disj, xor, same, Edge, Graph, isTerminal}
+use Rattle.assertion.specs.Graph.{Run, signalsFrom, constantsFrom, Expr, truth, signal, constant, neg, conj, disj, xor, same, alike, Edge, Graph, signalBits, constantBits, isTerminal}
 use Rattle.circuit.specs.Gates.{lit, inv, Gate, gate, Piece, andOf, orOf, xorOf, sameOf, after}
 
--- ---- variables: 0 is false; inputs are init, then the signals; latches are the constants, then happy and
--- condemned for each edge; then come the gates
+-- ---- variables: 0 is false; inputs are init, then the signal bits; latches are the constant bits, then
+-- happy and condemned for each edge; then come the gates
 abbrev pub init : ℕ
 init = 1
 
@@ -21,12 +21,47 @@ constantVariable s j = 2 + s + j
 
 -- the variable of the first edge's happy latch; its condemned latch is the next, and so on
 unfoldable pub firstEdgeLatch : Graph → ℕ
-firstEdgeLatch g = 2 + length (g .signals) + length (g .constants)
+firstEdgeLatch g = 2 + signalBits g + constantBits g
 
 unfoldable pub firstGate : Graph → ℕ
 firstGate g = firstEdgeLatch g + 2 * length (g .edges)
 
--- ---- a formula over s signals: operands left to right before their operator
+-- ---- an AND of literals in order, one gate for each further one; of none: literal 1
+abbrev pub andFrom : ℕ → ℕ → List ℕ → Piece
+andFrom n so [] = record { gates = []; out = so }
+andFrom n so (t ∷ ts) = record { gates = gate so t ∷ andFrom (suc n) (lit n) ts .gates; out = andFrom (suc n) (lit n) ts .out }
+
+abbrev pub andAll : ℕ → List ℕ → Piece
+andAll n [] = record { gates = []; out = literalOf 0 true }
+andAll n (t ∷ ts) = andFrom n t ts
+
+-- ---- "`==` costs 3 gates a bit, bit 0 first, made as for `=`, then width − 1 more that join them in bit order"
+-- the literal of bit i of a run, over s signal bits
+unfoldable pub bitLiteral : ℕ → Run → ℕ → ℕ
+bitLiteral s (signalsFrom j) i = lit (signalVariable (j + i))
+bitLiteral s (constantsFrom j) i = lit (constantVariable s (j + i))
+
+-- gates that are added one after another, and the literals that they make
+pub record Bits : Type 0 where
+  pub gates : List Gate
+  pub outs : List ℕ
+
+-- 3 gates a bit, for w bits from bit i on
+abbrev pub sameBits : ℕ → ℕ → Run → Run → ℕ → ℕ → Bits
+sameBits s n a b i zero = record { gates = []; outs = [] }
+sameBits s n a b i (suc w) =
+    let p = sameOf n (bitLiteral s a i) (bitLiteral s b i) in
+    let r = sameBits s (n + 3) a b (suc i) w in
+    record { gates = p .gates ++ r .gates; outs = p .out ∷ r .outs }
+
+-- and the gates that join them
+unfoldable pub alikeOf : ℕ → ℕ → Run → Run → ℕ → Piece
+alikeOf s n a b w =
+    let p = sameBits s n a b 0 w in
+    let q = andAll (n + length (p .gates)) (p .outs) in
+    record { gates = p .gates ++ q .gates; out = q .out }
+
+-- ---- a formula over s signal bits: operands left to right before their operator
 unfoldable pub formula : ℕ → ℕ → Expr → Piece
 formula s n (truth b) = record { gates = []; out = literalOf 0 b }
 formula s n (signal i) = record { gates = []; out = lit (signalVariable i) }
@@ -36,6 +71,7 @@ formula s n (conj a b) = after andOf n (formula s n a) (formula s (n + length (f
 formula s n (disj a b) = after orOf n (formula s n a) (formula s (n + length (formula s n a .gates)) b)
 formula s n (xor a b) = after xorOf n (formula s n a) (formula s (n + length (formula s n a .gates)) b)
 formula s n (same a b) = after sameOf n (formula s n a) (formula s (n + length (formula s n a .gates)) b)
+formula s n (alike a b w) = alikeOf s n a b w
 
 -- a happy and a condemned literal, and gates that make some of them
 pub record Two : Type 0 where
@@ -132,14 +168,6 @@ edgePieces s n vs (e ∷ es) =
     record { gates = p .gates ++ r .gates; outs = p .outs ∷ r .outs }
 
 -- ---- 4. accept: AND of NOT condemned-now over terminal edges in order; none: literal 1
-abbrev pub andFrom : ℕ → ℕ → List ℕ → Piece
-andFrom n so [] = record { gates = []; out = so }
-andFrom n so (t ∷ ts) = record { gates = gate so t ∷ andFrom (suc n) (lit n) ts .gates; out = andFrom (suc n) (lit n) ts .out }
-
-abbrev pub andAll : ℕ → List ℕ → Piece
-andAll n [] = record { gates = []; out = literalOf 0 true }
-andAll n (t ∷ ts) = andFrom n t ts
-
 abbrev pub acceptTerms : Graph → List Edge → List Two → List ℕ
 acceptTerms g [] ms = []
 acceptTerms g (e ∷ es) [] = []
@@ -154,7 +182,7 @@ gathered g = vertexPieces (firstGate g + length (masked g .gates)) (g .edges) (m
 
 unfoldable pub judged : Graph → Pieces
 judged g =
-    edgePieces (length (g .signals)) (firstGate g + length (masked g .gates) + length (gathered g .gates)) (gathered g .outs) (g .edges)
+    edgePieces (signalBits g) (firstGate g + length (masked g .gates) + length (gathered g .gates)) (gathered g .outs) (g .edges)
 
 unfoldable pub accepted : Graph → Piece
 accepted g =

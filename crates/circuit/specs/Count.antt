@@ -4,9 +4,10 @@ use mathlib.Core.Bool.{Bool, cond}
 use mathlib.Core.List.{List, [], _∷_}
 use lib.ListN.{length}
 use lib.Dec.{eqb}
-use Rattle.assertion.specs.Graph.{Expr, truth, signal, constant, neg, conj, disj, xor, same, Edge, Graph, isTerminal, operators}
+use Rattle.assertion.specs.Graph.{Expr, truth, signal, constant, neg, conj, disj, xor, same, alike, Edge, Graph, isTerminal, operators}
 
--- F adds 1 for each `&` or `|`, 3 for each `^` or `=`
+-- F adds 1 for each `&` or `|`, 3 for each `^` or `=`; "`==` costs 3 gates a bit .. then width − 1 more that join
+-- them .. it enters F thus"
 unfoldable pub formulaGates : Expr → ℕ
 formulaGates (truth b) = 0
 formulaGates (signal i) = 0
@@ -16,12 +17,13 @@ formulaGates (conj a b) = formulaGates a + formulaGates b + 1
 formulaGates (disj a b) = formulaGates a + formulaGates b + 1
 formulaGates (xor a b) = formulaGates a + formulaGates b + 3
 formulaGates (same a b) = formulaGates a + formulaGates b + 3
+formulaGates (alike a b w) = 4 * w - 1
 
 abbrev pub allFormulaGates : List Edge → ℕ
 allFormulaGates [] = 0
 allFormulaGates (e ∷ es) = formulaGates (e .antecedent) + formulaGates (e .consequent) + allFormulaGates es
 
--- the operators `& ^ | =` of all formulas
+-- the operators `& ^ | =` of all formulas, and for each `==` as many as it costs gates
 abbrev pub allOperators : List Edge → ℕ
 allOperators [] = 0
 allOperators (e ∷ es) = operators (e .antecedent) + operators (e .consequent) + allOperators es

@@ -3,3 +3,4 @@ pub mod Gates
 pub mod Build
 pub mod Numbers
 pub mod Count
+pub mod Claims

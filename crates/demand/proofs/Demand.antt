@@ -12,7 +12,7 @@ use Rattle.netlist.specs.Layout.{inputCount, latchCount, resetAt}
 use Rattle.netlist.specs.Lanes.{lane}
 use Rattle.netlist.specs.Valid.{isFree, freeCount}
 use Rattle.netlist.proofs.LaneLaws.{lane-zero, lane-word}
-use Rattle.assertion.specs.Graph.{Edge, Graph, Cycle}
+use Rattle.assertion.specs.Graph.{Edge, Graph, signalBits, constantBits, Cycle}
 use Rattle.assertion.specs.Paths.{verdicts, countRejected}
 use Rattle.assertion.proofs.PathLaws.{paths-mean}
 use Rattle.circuit.specs.Build.{gatesOf}
@@ -67,7 +67,7 @@ verdictIn (stepped outcome) = Accepted
 
 module _ (g : Graph) (fits : Fits g) (surplus : List ℕ) where
   abbrev K : ℕ
-  K = length (g .constants)
+  K = constantBits g
 
   abbrev E : ℕ
   E = length (g .edges)
@@ -203,7 +203,7 @@ module _ (g : Graph) (fits : Fits g) (surplus : List ℕ) where
       by (Failed cause) e xs = let z : _≡_ {A = ℕ} 0 1 = cc in absurd (omega arith)
 
 -- the monitor's numbers, with any surplus, do what demand 3 asks
-pub demand3 : (g : Graph) → Fits g → length (gatesOf g) + (1 + length (g .signals)) + (length (g .constants) + 2 * length (g .edges)) ≤ 4095
+pub demand3 : (g : Graph) → Fits g → length (gatesOf g) + (1 + signalBits g) + (constantBits g + 2 * length (g .edges)) ≤ 4095
     → (surplus : List ℕ) → Demand3 g (numbersOf g ++ surplus) (length (gatesOf g))
 demand3 g fits small surplus =
     record {

@@ -10,8 +10,9 @@ use Rattle.netlist.specs.Lanes.{lane, each, numberOf, wordOf}
 use Rattle.netlist.specs.Meaning.{signed, litOf, bitOf, gateOf, front, valuesOf, nextsOf, nextOf, outputOf}
 use Rattle.netlist.specs.Valid.{headerOk, isWithin, isFree, latchOk, freeCount, outputOk, gateOk, isNetlist}
 use Rattle.assertion.specs.declared.Mode.the-variants.{Unsaid}
-use Rattle.assertion.specs.Graph.{Bytes, signal, Graph, isTerminal}
-use Rattle.circuit.specs.Build.{firstEdgeLatch, firstGate, formula, happyOr, condemnedOr, edgePiece, masked, gathered, judged, accepted, gatesOf}
+use Rattle.assertion.specs.Graph.{Bytes, signal, constant, alike, signalsFrom, constantsFrom, Name, Graph, bitsOf, signalBits, constantBits, isTerminal}
+use Rattle.circuit.specs.Build.{firstEdgeLatch, firstGate, alikeOf, bitLiteral, formula, happyOr, condemnedOr, edgePiece, masked, gathered, judged, accepted, gatesOf}
+use Rattle.circuit.specs.Gates.{inv, gate}
 use Rattle.circuit.specs.Numbers.{numbersOf}
 use Rattle.circuit.proofs.Fits.{Fits}
 use Rattle.calls.specs.declared.refusal.Checked.the-variants.{Passed}
@@ -24,7 +25,7 @@ use Rattle.simulator.specs.declared.outcome.RunOutcome.the-variants.{Done}
 use Rattle.simulator.specs.Start.{startBit, startWords, startAs, startOf}
 use Rattle.simulator.specs.Step.{cycleWords, outputWord, latchesAfter, valuesAfter}
 use Rattle.simulator.specs.Run.{verdictByte, verdictOf, runCycle, runCycles, ranTo, runAs, runOf}
-use Rattle.demand.specs.Calls.{runCall, Kept, ran, called, runGives}
+use Rattle.demand.specs.Calls.{Call, runCall, Kept, ran, called, runGives}
 use Rattle.demand.specs.Demand.{keptBy, Demand3}
 use Rattle.demand.proofs.Demand.{demand3}
 
@@ -34,18 +35,22 @@ p = 112 ∷ []
 abbrev q : Bytes
 q = 113 ∷ []
 
+abbrev one : Bytes → Name
+one n = record { name = n; width = 1 }
+
 -- `S p`, `S q`, `V a`, `V b`, `E a b t p q`
 abbrev G : Graph
 G =
     record {
       mode = Unsaid;
-      signals = p ∷ q ∷ [];
+      signals = one p ∷ one q ∷ [];
       constants = [];
       vertices = (97 ∷ []) ∷ (98 ∷ []) ∷ [];
       edges = record { from = 0; to = 1; marked = true; antecedent = signal 0; consequent = signal 1; antecedentText = p; consequentText = q } ∷ [];
     }
 
 fits : Fits G
+unfolding signalBits constantBits bitsOf
 fits =
     record {
       constants = lit≤ tt;
@@ -55,7 +60,7 @@ fits =
     }
 
 demand-of-G : (surplus : List ℕ) → Demand3 G (numbersOf G ++ surplus) (length (gatesOf G))
-unfolding gatesOf accepted judged gathered masked firstGate firstEdgeLatch edgePiece condemnedOr happyOr formula isTerminal
+unfolding gatesOf accepted judged gathered masked firstGate firstEdgeLatch signalBits constantBits bitsOf edgePiece condemnedOr happyOr formula isTerminal
 demand-of-G = demand3 G fits (lit≤ tt)
 
 -- ---- the same, computed
@@ -113,3 +118,50 @@ refused-run = refl
 refused-tally : called numbers begun (runCall trace values (9 ∷ 9 ∷ [])) .kept .tally ≡ tally 0 0
 unfolding called runGives runOf runAs runCheck isShort faultOf faultFrom fitsLine lineCount isBit hasRoom startOf startAs startWords startCheck hasLatches hasValues isNetlist headerOk outputOk latchOk gateOk isWithin isFree freeCount each literalOf
 refused-tally = refl
+
+-- ---- wide names: `S a 2`, `K k 2`, `V v`, `E v v t a==k k[1]` on 100, 110, 101, 111, over all settings of k
+abbrev G-wide : Graph
+G-wide =
+    record {
+      mode = Unsaid;
+      signals = record { name = 97 ∷ []; width = 2 } ∷ [];
+      constants = record { name = 107 ∷ []; width = 2 } ∷ [];
+      vertices = (118 ∷ []) ∷ [];
+      edges =
+          record {
+            from = 0;
+            to = 0;
+            marked = true;
+            antecedent = alike (signalsFrom 0) (constantsFrom 0) 2;
+            consequent = constant 1;
+            antecedentText = 97 ∷ 61 ∷ 61 ∷ 107 ∷ [];
+            consequentText = 107 ∷ 91 ∷ 49 ∷ 93 ∷ [];
+          }
+          ∷ [];
+    }
+
+abbrev wide-numbers : List ℕ
+wide-numbers =
+    22 ∷ 3 ∷ 4 ∷ 1 ∷ 15 ∷ 8 ∷ 8 ∷ 10 ∷ 10 ∷ 38 ∷ 0 ∷ 45 ∷ 0 ∷ 44 ∷ 12 ∷ 3 ∷ 14 ∷ 3 ∷ 17 ∷ 3 ∷ 8 ∷ 4
+    ∷ 9 ∷ 5 ∷ 25 ∷ 23 ∷ 10 ∷ 6 ∷ 11 ∷ 7 ∷ 31 ∷ 29 ∷ 33 ∷ 27 ∷ 34 ∷ 21 ∷ 36 ∷ 10 ∷ 36 ∷ 11 ∷ 34 ∷ 18 ∷ 43 ∷ 41 ∷ []
+
+wide-built : numbersOf G-wide ≡ wide-numbers
+unfolding numbersOf gatesOf accepted judged gathered masked firstGate firstEdgeLatch signalBits constantBits bitsOf edgePiece condemnedOr happyOr formula alikeOf bitLiteral gate inv literalOf variableOf isInverted isTerminal
+wide-built = refl
+
+abbrev wide-begun : Kept
+wide-begun = keptBy (startOf wide-numbers (0 ∷ 0 ∷ 0 ∷ 0 ∷ []) (tally 0 0))
+
+abbrev wide-values : List ℕ
+wide-values = 0 ∷ 0 ∷ 0 ∷ 0 ∷ 0 ∷ 0 ∷ 0 ∷ 0 ∷ 0 ∷ 0 ∷ 0 ∷ 0 ∷ 0 ∷ 0 ∷ 0 ∷ 0 ∷ 0 ∷ 0 ∷ 0 ∷ 0 ∷ 0 ∷ 0 ∷ 0 ∷ []
+
+abbrev wide-run : Call
+wide-run = runCall (49 ∷ 48 ∷ 48 ∷ 10 ∷ 49 ∷ 49 ∷ 48 ∷ 10 ∷ 49 ∷ 48 ∷ 49 ∷ 10 ∷ 49 ∷ 49 ∷ 49 ∷ 10 ∷ []) wide-values (9 ∷ 9 ∷ 9 ∷ 9 ∷ [])
+
+wide-bytes : called wide-numbers wide-begun wide-run .verdicts ≡ 1 ∷ 1 ∷ 0 ∷ 0 ∷ []
+unfolding called runGives runOf runAs ranTo runCycles runCycle verdictByte runCheck isShort faultOf faultFrom fitsLine lineCount cyclesOf cyclesFrom isBit hasRoom counted isRejected startOf startAs startWords startBit startCheck hasLatches hasValues isNetlist headerOk outputOk latchOk gateOk isWithin isFree freeCount each lane numberOf wordOf literalOf variableOf isInverted outputWord latchesAfter valuesAfter cycleWords outputOf nextOf nextsOf valuesOf front Rattle.netlist.specs.Meaning.gatesOf gateOf bitOf litOf signed
+wide-bytes = refl
+
+wide-tally : called wide-numbers wide-begun wide-run .kept .tally ≡ tally 4 2
+unfolding called runGives runOf runAs ranTo runCycles runCycle verdictByte runCheck isShort faultOf faultFrom fitsLine lineCount cyclesOf cyclesFrom isBit hasRoom counted isRejected startOf startAs startWords startBit startCheck hasLatches hasValues isNetlist headerOk outputOk latchOk gateOk isWithin isFree freeCount each lane numberOf wordOf literalOf variableOf isInverted outputWord latchesAfter valuesAfter cycleWords outputOf nextOf nextsOf valuesOf front Rattle.netlist.specs.Meaning.gatesOf gateOf bitOf litOf signed
+wide-tally = refl

@@ -11,7 +11,7 @@ use Rattle.netlist.specs.Lanes.{lane, each}
 use Rattle.netlist.specs.Meaning.{bools, words, bitOf, valuesOf, nextOf, outputOf}
 use Rattle.netlist.proofs.MeaningLaws.{length-nexts, lane-inputs}
 use Rattle.netlist.proofs.AigerLaws.{means}
-use Rattle.assertion.specs.Graph.{Graph, Cycle}
+use Rattle.assertion.specs.Graph.{Graph, signalBits, Cycle}
 use Rattle.assertion.specs.Paths.{isRejected, verdicts, sum, countRejected}
 use Rattle.circuit.specs.Numbers.{numbersOf}
 use Rattle.circuit.proofs.Fits.{Fits}
@@ -68,7 +68,7 @@ module _ (g : Graph) (fits : Fits g) (surplus : List ℕ) where
     abbrev w : ℕ
     w = outputWord net c latches
 
-    long : length c ≡ 1 + length (g .signals)
+    long : length c ≡ 1 + signalBits g
     long = whole ∙ inputs-are g surplus
 
     -- in lane n, the words are the values of the lane

@@ -1,19 +1,19 @@
 -- The bytes of a formula: what stands at a place of a field, which bytes are operators, what an operand's
 -- first byte tells, and how far a name runs. Assumes nothing.
 use mathlib.Core.Path.{_≡_, refl, ap, sym, subst, _∙_}
-use mathlib.Core.Bool.{Bool, true, false}
+use mathlib.Core.Bool.{Bool, true, false, _&&_}
 use mathlib.Core.Logic.{_⊎_, inl, inr, ⊎-elim}
 use mathlib.Core.List.{List, [], _∷_, _++_, List·Memᴰ, List·Memᴰ·head, List·Memᴰ·tail}
 use Prim.Native.Nat.{ℕ, zero, suc, _+_, _≤_, _<_}
 use native.Mathlib.Numerals.{add-one}
 use native.Mathlib.Omega.{arith}
-use borrow.Author.Tests.{eqb-true, ne-eqb, leb-true, le-leb}
+use borrow.Author.Tests.{eqb-true, eqb-false, ne-eqb, leb-true, le-leb}
 use lib.Dec.{leb, eqb}
 use lib.ListN.{length, getD, take, drop, length-drop}
 use lib.Seq.{getD-drop, drop-drop, drop-cons, drop-append-seam, length-take-le}
 use Rattle.text.specs.Quoted.{bytes}
 use Rattle.formula.specs.declared.Class.{Class}
-use Rattle.formula.specs.declared.Class.the-variants.{Other, Letter, Digit, Underscore, Operator, Opening, Closing, Tab, Lf}
+use Rattle.formula.specs.declared.Class.the-variants.{Other, Letter, Digit, Underscore, Operator, Opening, Closing, OpeningSquare, ClosingSquare, Tab, Lf}
 use Rattle.formula.specs.declared.Start.{Start}
 use Rattle.formula.specs.declared.Start.the-variants.{Not, Group, Bit, Name, Nothing}
 use Rattle.formula.specs.Classes.{pick, classOf, strengthOf, isLetter, isWordClass, startOf, inName, run, nameBytes, isName}
@@ -139,6 +139,10 @@ pub bit-starts : {b : ℕ} → List·Memᴰ b (bytes "01") → startOf b ≡ Bit
 unfolding Each startOf
 bit-starts m = among (λ b. startOf b ≡ Bit) (refl, (refl, tt)) m
 
+pub bit-not-equals : {b : ℕ} → List·Memᴰ b (bytes "01") → b ≡ 61 → ⊥
+unfolding Each
+bit-not-equals m = among (λ b. b ≡ 61 → ⊥) ((λ e. omega arith), ((λ e. omega arith), tt)) m
+
 module _ (b : ℕ) (h : isLetter (classOf b) ≡ true) where
   no-letter : (x : ℕ) → isLetter (classOf x) ≡ false → eqb b x ≡ false
   no-letter x e =
@@ -152,7 +156,20 @@ module _ (b : ℕ) (h : isLetter (classOf b) ≡ true) where
   unfolding startOf
   letter-starts = rw (no-mark .0, no-mark .1, no-mark .2, no-mark .3, h)
 
+  pub not-equals : b ≡ 61 → ⊥
+  unfolding classOf isLetter
+  not-equals e = eqb-false b 61 (no-letter 61 refl) e
+
 -- ---- names
+
+-- not `==`
+pub not-twice : (a b : ℕ) → (a ≡ 61 → b ≡ 61 → ⊥) → (eqb a 61 && eqb b 61) ≡ false
+not-twice a b h = go (eqb a 61) refl (eqb b 61) refl
+  where
+    go : (t : Bool) → eqb a 61 ≡ t → (u : Bool) → eqb b 61 ≡ u → (t && u) ≡ false
+    go true e true f = absurd (h (eqb-true a 61 e) (eqb-true b 61 f))
+    go true e false f = refl
+    go false e u f = refl
 
 pub letter-word : (c : Class) → isLetter c ≡ true → isWordClass c ≡ true
 unfolding isLetter isWordClass
@@ -163,6 +180,8 @@ letter-word Underscore e = refl
 letter-word Operator e = e
 letter-word Opening e = e
 letter-word Closing e = e
+letter-word OpeningSquare e = e
+letter-word ClosingSquare e = e
 letter-word Tab e = e
 letter-word Lf e = e
 

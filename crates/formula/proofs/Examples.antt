@@ -2,17 +2,24 @@
 use mathlib.Core.Path.{_≡_, refl}
 use mathlib.Core.Bool.{true, false}
 use mathlib.Core.List.{List, [], _∷_, _++_}
-use Prim.Native.Nat.{ℕ}
+use Prim.Native.Nat.{ℕ, _+_, _*_}
 use lib.ListN.{replicate}
 use Rattle.text.specs.Quoted.{byte, bytes}
+use Rattle.text.specs.Numbers.{isDigit, leadingDigits, valueFrom}
+use Rattle.formula.specs.declared.Class.the-variants.{Other, OpeningSquare, ClosingSquare}
 use Rattle.formula.specs.Classes.{classOf, strengthOf, isLetter, isWordClass, startOf, run, nameBytes, isName}
 use Rattle.formula.specs.Grammar.{
   name,
+  bitOf,
+  alike,
   bit,
   not,
   group,
   join,
   andThen,
+  isIndex,
+  indexOf,
+  rightOf,
   nameOf,
   closed,
   operandOf,
@@ -24,7 +31,7 @@ use Rattle.formula.specs.Grammar.{
   treeOf,
   depthOf,
 }
-use Rattle.formula.specs.Reading.{nameWord, byteWord, postfix, padded, answerOf, formulaOf}
+use Rattle.formula.specs.Reading.{nameWord, bitWord, alikeWord, byteWord, postfix, padded, answerOf, formulaOf}
 
 -- n bytes `b`
 abbrev of : ℕ → ℕ → List ℕ
@@ -52,6 +59,48 @@ record Examples : Type 0 where
       (join (byte "=")
       (join (byte "^") (not (group (join (byte "&") (name 2 1) (name 4 1)))) (group (join (byte "|") (name 8 1) (name 10 3))))
       (bit (byte "0")))
+  opening-square : classOf (byte "[") ≡ OpeningSquare
+  closing-square : classOf (byte "]") ≡ ClosingSquare
+  between-squares : classOf (byte "\\") ≡ Other
+  -- one bit of a name; two names compared, which no operator parts
+  bit-zero : treeOf (bytes "a[0]") ≡ tree (bitOf 0 1 0)
+  bit-twelve : treeOf (bytes "a[12]") ≡ tree (bitOf 0 1 12)
+  two-names : treeOf (bytes "a==b") ≡ tree (alike 0 1 3 1)
+  not-two : treeOf (bytes "!a==b") ≡ tree (not (alike 1 1 4 1))
+  equals-two : treeOf (bytes "p=a==b") ≡ tree (join (byte "=") (name 0 1) (alike 2 1 5 1))
+  two-equals : treeOf (bytes "a==b=p") ≡ tree (join (byte "=") (alike 0 1 3 1) (name 5 1))
+  two-and-two : treeOf (bytes "a==b&c==j") ≡ tree (join (byte "&") (alike 0 1 3 1) (alike 5 1 8 1))
+  -- an index is digits without a leading zero; only a name has bits; only two names are compared so
+  zeros : treeOf (bytes "a[00]") ≡ none
+  leading-zero : treeOf (bytes "a[01]") ≡ none
+  no-index : treeOf (bytes "a[]") ≡ none
+  unclosed : treeOf (bytes "a[0") ≡ none
+  letter-index : treeOf (bytes "a[p]") ≡ none
+  blank-index : treeOf (bytes "a[ 0]") ≡ none
+  bit-of-bit : treeOf (bytes "1[0]") ≡ none
+  bit-of-group : treeOf (bytes "(a)[0]") ≡ none
+  bit-twice : treeOf (bytes "a[0][0]") ≡ none
+  bit-left : treeOf (bytes "a[0]==b") ≡ none
+  bit-right : treeOf (bytes "a==b[0]") ≡ none
+  group-left : treeOf (bytes "(a)==b") ≡ none
+  group-right : treeOf (bytes "a==(b)") ≡ none
+  one-right : treeOf (bytes "a==1") ≡ none
+  not-right : treeOf (bytes "a==!b") ≡ none
+  three-names : treeOf (bytes "a==b==c") ≡ none
+  three-equals : treeOf (bytes "a===b") ≡ none
+  no-right : treeOf (bytes "a==") ≡ none
+  no-left : treeOf (bytes "==a") ≡ none
+  -- 15 and 16 bytes `a` on either side
+  left-15 : treeOf (of 15 (byte "a") ++ bytes "==b") ≡ tree (alike 0 15 17 1)
+  left-16 : treeOf (of 16 (byte "a") ++ bytes "==b") ≡ none
+  right-15 : treeOf (bytes "b==" ++ of 15 (byte "a")) ≡ tree (alike 0 1 3 15)
+  right-16 : treeOf (bytes "b==" ++ of 16 (byte "a")) ≡ none
+  -- bit 15 is the last that a name may have; 16 and 99 are past all
+  bit-15 : postfix (bitOf 6 1 15) ≡ (8192 * 16 + 97) ∷ []
+  bit-16 : postfix (bitOf 6 1 16) ≡ (8192 * 17 + 97) ∷ []
+  bit-99 : postfix (bitOf 6 1 99) ≡ (8192 * 17 + 97) ∷ []
+  -- the left name before the right
+  alike-word : postfix (alike 0 1 3 2) ≡ (16777216 + 4096 * 1 + 50) ∷ []
   no-number : treeOf (bytes "10") ≡ none
   no-bytes : treeOf [] ≡ none
   -- 15 and 16 bytes `a`
@@ -63,10 +112,13 @@ record Examples : Type 0 where
   depth-16 : formulaOf (of 16 (byte "!") ++ bytes "p") .depth ≡ 16
   depth-17 : formulaOf (of 17 (byte "!") ++ bytes "p") .depth ≡ 17
   depth-5 : formulaOf (bytes "!(!((p)))") .depth ≡ 5
+  -- an index and `==` add none
+  depth-bit : formulaOf (bytes "!a[0]") .depth ≡ 1
+  depth-two : formulaOf (bytes "!a==b") .depth ≡ 1
   words : formulaOf (bytes "a|!b") .words ≡ (nameWord 0 1 ∷ nameWord 3 1 ∷ byteWord (byte "!") ∷ byteWord (byte "|") ∷ []) ++ of 251 0
 
 examples : Examples
-unfolding formulaOf answerOf padded postfix treeOf whole expressionOf andThen nameOf closed classOf strengthOf isLetter isWordClass startOf run nameBytes isName depthOf
+unfolding formulaOf answerOf padded postfix bitWord alikeWord nameWord treeOf whole expressionOf andThen isDigit leadingDigits valueFrom isIndex indexOf rightOf nameOf closed classOf strengthOf isLetter isWordClass startOf run nameBytes isName depthOf
 examples =
     record {
       xor-and = refl;
@@ -83,6 +135,43 @@ examples =
       or-left = refl;
       equals-left = refl;
       mixed = refl;
+      bit-zero = refl;
+      bit-twelve = refl;
+      two-names = refl;
+      not-two = refl;
+      equals-two = refl;
+      two-equals = refl;
+      two-and-two = refl;
+      zeros = refl;
+      leading-zero = refl;
+      no-index = refl;
+      unclosed = refl;
+      letter-index = refl;
+      blank-index = refl;
+      bit-of-bit = refl;
+      bit-of-group = refl;
+      bit-twice = refl;
+      bit-left = refl;
+      bit-right = refl;
+      group-left = refl;
+      group-right = refl;
+      one-right = refl;
+      not-right = refl;
+      three-names = refl;
+      three-equals = refl;
+      no-right = refl;
+      no-left = refl;
+      left-15 = refl;
+      left-16 = refl;
+      right-15 = refl;
+      right-16 = refl;
+      bit-15 = refl;
+      bit-16 = refl;
+      bit-99 = refl;
+      alike-word = refl;
+      opening-square = refl;
+      closing-square = refl;
+      between-squares = refl;
       no-number = refl;
       no-bytes = refl;
       name-15 = refl;
@@ -92,5 +181,7 @@ examples =
       depth-16 = refl;
       depth-17 = refl;
       depth-5 = refl;
+      depth-bit = refl;
+      depth-two = refl;
       words = refl;
     }

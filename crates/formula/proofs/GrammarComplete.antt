@@ -1,24 +1,30 @@
 -- Every formula is read as its own tree; with `GrammarSound`, the grammar means what it claims.
 -- Assumes nothing.
 use mathlib.Core.Path.{_≡_, refl, ap, sym, _∙_}
-use mathlib.Core.Bool.{false}
-use mathlib.Core.List.{List, [], _∷_, _++_, append-assoc, append-nil}
+use mathlib.Core.Bool.{true, false}
+use mathlib.Core.List.{List, [], _∷_, _++_, append-assoc, append-nil, List·Memᴰ}
 use Prim.Native.Nat.{ℕ, zero, suc, _+_, _*_, _-_, _≤_, _<_}
 use native.Mathlib.Omega.{arith}
-use borrow.Author.Tests.{le-leb, eq-eqb}
+use borrow.Author.Tests.{le-leb, eq-eqb, ne-eqb}
 use lib.ListN.{length, getD, take, drop, length-append, length-drop, List·getD-append}
-use lib.Seq.{length-take-le}
+use lib.Seq.{getD-drop, length-take-le}
+use Rattle.text.specs.Numbers.{digits, isDigit, leadingDigits}
+use Rattle.text.proofs.NumberLaws.{each-digits, value-digits}
 use Rattle.formula.specs.declared.Start.the-variants.{Name}
-use Rattle.formula.specs.Classes.{classOf, strengthOf, isWordClass, startOf, inName, run}
+use Rattle.formula.specs.Classes.{classOf, strengthOf, isLetter, isWordClass, startOf, inName, run, isName}
 use Rattle.formula.specs.Grammar.{
   Tree,
   name,
+  bitOf,
+  alike,
   bit,
   not,
   group,
   join,
   got,
   andThen,
+  indexOf,
+  rightOf,
   nameOf,
   closed,
   operandOf,
@@ -28,7 +34,7 @@ use Rattle.formula.specs.Grammar.{
   whole,
   treeOf,
 }
-use Rattle.formula.specs.Claims.{written, Placed, tightest, bindingOf, Grouped, IsFormula, GrammarMeans}
+use Rattle.formula.specs.Claims.{written, operators, NameAt, Placed, tightest, bindingOf, Grouped, IsFormula, GrammarMeans}
 use Rattle.formula.proofs.ByteLaws.{
   next-byte,
   past-byte,
@@ -41,42 +47,88 @@ use Rattle.formula.proofs.ByteLaws.{
   not-starts,
   group-starts,
   bit-starts,
+  bit-not-equals,
   letter-starts,
+  not-equals,
+  not-twice,
   name-is,
   runs-out,
 }
+use Rattle.formula.proofs.IndexLaws.{leading-append, digits-index}
 use Rattle.formula.proofs.GrammarSound.{sound}
 use Rattle.formula.proofs.Steps as steps
+
+-- what follows a form adds nothing to a name: no name byte, no `[` and no `==`
+record Apart (rest : List ℕ) : Type 0 where
+  pub word : inName (getD rest 0 0) ≡ false
+  pub square : getD rest 0 0 ≡ 91 → ⊥
+  pub equals : getD rest 0 0 ≡ 61 → getD rest 1 0 ≡ 61 → ⊥
+
+apart-end : Apart []
+unfolding classOf isWordClass
+apart-end = record { word = refl; square = λ e. omega arith; equals = λ e f. omega arith }
+
+apart-closing : (rest : List ℕ) → Apart (41 ∷ rest)
+unfolding classOf isWordClass
+apart-closing rest = record { word = refl; square = λ e. omega arith; equals = λ e f. omega arith }
+
+apart-operator : (b : ℕ) (rest : List ℕ) → List·Memᴰ b operators → (getD rest 0 0 ≡ 61 → ⊥) → Apart (b ∷ rest)
+unfolding strengthOf
+apart-operator b rest m h =
+    record { word = operator-apart m; square = λ e. omega (arith, operator-strength m, ap strengthOf e); equals = λ e f. h f }
 
 module _ (s : List ℕ) where
   end : ℕ → Tree → ℕ
   end at e = at + length (written s e)
 
-  -- the formula e is written from the place `at` on, and the bytes `rest` after it, which add no byte to a name
+  -- the formula e is written from the place `at` on, and the bytes `rest` after it, which add nothing to a name
   record Ahead (at : ℕ) (e : Tree) (rest : List ℕ) : Type 0 where
     pub text : drop at s ≡ written s e ++ rest
     pub places : Placed s at e
     pub groups : Grouped e
-    pub apart : inName (getD rest 0 0) ≡ false
+    pub apart : Apart rest
 
   ahead-not : (at : ℕ) (e : Tree) (rest : List ℕ) → Ahead at (not e) rest → Ahead (at + 1) e rest
   unfolding written Placed Grouped
   ahead-not at e rest a = record { text = past-byte s at 33 _ (a .text); places = a .places; groups = a .groups .1; apart = a .apart }
 
   ahead-group : (at : ℕ) (e : Tree) (rest : List ℕ) → Ahead at (group e) rest → Ahead (at + 1) e (41 ∷ rest)
-  unfolding written Placed Grouped classOf isWordClass
+  unfolding written Placed Grouped
   ahead-group at e rest a =
-      record { text = past-byte s at 40 _ (a .text) ∙ append-assoc (written s e) (41 ∷ []) rest; places = a .places; groups = a .groups; apart = refl }
+      record { text = past-byte s at 40 _ (a .text) ∙ append-assoc (written s e) (41 ∷ []) rest; places = a .places; groups = a .groups; apart = apart-closing rest }
+
+  -- no formula starts with `=`
+  name-first : (w rest : List ℕ) → isName w ≡ true → getD (w ++ rest) 0 0 ≡ 61 → ⊥
+  name-first w rest h e =
+      let n = name-is w h in
+      not-equals (getD w 0 0) (n .letter) (sym (List·getD-append w rest 0 0 (n .some)) ∙ e)
+
+  regroup : (w tail rest : List ℕ) → getD (w ++ (tail ++ rest)) 0 0 ≡ getD ((w ++ tail) ++ rest) 0 0
+  regroup w tail rest = sym (ap (λ (l : List ℕ). getD l 0 0) (append-assoc w tail rest))
+
+  first-byte : (e : Tree) (at : ℕ) (rest : List ℕ) → Placed s at e → getD (written s e ++ rest) 0 0 ≡ 61 → ⊥
+  unfolding written Placed
+  first-byte (name p n) at rest h e = name-first (take n (drop p s)) rest (h .2) e
+  first-byte (bitOf p n i) at rest h e =
+      let tail : List ℕ = 91 ∷ (digits i ++ (93 ∷ [])) in
+      name-first (take n (drop p s)) (tail ++ rest) (h .2) (regroup (take n (drop p s)) tail rest ∙ e)
+  first-byte (alike p n q m) at rest h e =
+      let tail : List ℕ = 61 ∷ 61 ∷ take m (drop q s) in
+      name-first (take n (drop p s)) (tail ++ rest) (h .0 .2) (regroup (take n (drop p s)) tail rest ∙ e)
+  first-byte (bit b) at rest h e = bit-not-equals h e
+  first-byte (not x) at rest h e = omega arith
+  first-byte (group x) at rest h e = omega arith
+  first-byte (join b l r) at rest h e = first-byte l at (b ∷ (written s r ++ rest)) (h .1) (regroup (written s l) (b ∷ written s r) rest ∙ e)
 
   module _ (at b : ℕ) (l r : Tree) (rest : List ℕ) (a : Ahead at (join b l r) rest) where
     ahead-left : Ahead at l (b ∷ (written s r ++ rest))
-    unfolding written Placed Grouped
+    unfolding written Placed Grouped end
     ahead-left =
         record {
           text = a .text ∙ append-assoc (written s l) (b ∷ written s r) rest;
           places = a .places .1;
           groups = a .groups .2;
-          apart = operator-apart (a .places .0);
+          apart = apart-operator b (written s r ++ rest) (a .places .0) (first-byte r (end at l + 1) rest (a .places .2));
         }
 
     at-operator : drop (end at l) s ≡ b ∷ (written s r ++ rest)
@@ -111,19 +163,85 @@ module _ (s : List ℕ) where
   stops : (e : Tree) (at : ℕ) (rest : List ℕ) (k f : ℕ) → Ahead at e rest → Read e k at f → strengthOf (getD rest 0 0) ≤ k → expressionOf f s k at ≡ got e (end at e)
   stops e at rest k f a r h = r .is ∙ steps.rest-stops (r .left) s k e (end at e) (rw (after at e rest a) h)
 
+  -- ---- names
+
+  -- a name of n bytes stands at `at`, and `rest` after it
+  record NameAhead (at n : ℕ) (rest : List ℕ) : Type 0 where
+    pub letter : isLetter (classOf (getD s at 0)) ≡ true
+    pub runs : run (drop at s) ≡ n
+    pub short : n ≤ 15
+    pub after : drop (at + n) s ≡ rest
+
+  module _ (at p n : ℕ) (is : NameAt s at p n) where
+    name-long : length (take n (drop p s)) ≡ n
+    name-long = length-take-le n (drop p s) (omega (arith, length-drop p s, is .1))
+
+    name-ahead : (rest : List ℕ) → drop at s ≡ take n (drop p s) ++ rest → inName (getD rest 0 0) ≡ false → NameAhead at n rest
+    name-ahead rest text stop =
+        let w = name-is (take n (drop p s)) (is .2) in
+        let first : getD s at 0 ≡ getD (take n (drop p s)) 0 0 = next-byte s at _ text ∙ List·getD-append (take n (drop p s)) rest 0 0 (w .some) in
+        record {
+          letter = rw first (w .letter);
+          runs = ap run text ∙ runs-out (take n (drop p s)) rest (w .all) stop ∙ name-long;
+          short = omega (arith, w .short, name-long);
+          after = ap (λ (x : ℕ). drop (at + x) s) (sym name-long) ∙ past s at (take n (drop p s)) rest text;
+        }
+
+  name-given : (at n : ℕ) (rest : List ℕ) (f : ℕ) (e : Tree) (to : ℕ) → NameAhead at n rest → 2 * (length s - at) ≤ f → nameOf s at n ≡ got e to → operandOf f s at ≡ got e to
+  name-given at n rest zero e to a l h = absurd (omega (arith, steps.starts s at Name (letter-starts _ (a .letter)) (omega arith)))
+  name-given at n rest (suc f) e to a l h = rw (steps.operand-name f s at (letter-starts _ (a .letter)), a .runs) h
+
+  bare-given : (at n : ℕ) (rest : List ℕ) → NameAhead at n rest → Apart rest → nameOf s at n ≡ got (name at n) (at + n)
+  unfolding nameOf
+  bare-given at n rest a apart =
+      let here : getD s (at + n) 0 ≡ getD rest 0 0 = next-byte s (at + n) rest (a .after) in
+      let next : getD s (at + n + 1) 0 ≡ getD rest 1 0 = sym (getD-drop (at + n) s 1 0) ∙ ap (λ (l : List ℕ). getD l 1 0) (a .after) in
+      rw (le-leb n 15 (a .short), here, next, ne-eqb (getD rest 0 0) 91 (apart .square), not-twice (getD rest 0 0) (getD rest 1 0) (apart .equals))
+
+  index-given : (at n i : ℕ) (rest : List ℕ) → NameAhead at n (91 ∷ (digits i ++ (93 ∷ rest))) → nameOf s at n ≡ got (bitOf at n i) (at + n + 1 + length (digits i) + 1)
+  unfolding nameOf indexOf isDigit
+  index-given at n i rest a =
+      let tail : drop (at + n + 1) s ≡ digits i ++ (93 ∷ rest) = past-byte s (at + n) 91 _ (a .after) in
+      let first : getD s (at + n) 0 ≡ 91 = next-byte s (at + n) _ (a .after) in
+      let ds : leadingDigits (drop (at + n + 1) s) ≡ digits i = ap leadingDigits tail ∙ leading-append (digits i) (93 ∷ rest) (each-digits i) refl in
+      let last : getD s (at + n + 1 + length (digits i)) 0 ≡ 93 = next-byte s _ _ (past s (at + n + 1) (digits i) (93 ∷ rest) tail) in
+      rw (le-leb n 15 (a .short), first, ds, digits-index i, last, value-digits i)
+
+  two-given : (at n m : ℕ) (right rest : List ℕ) → NameAhead at n (61 ∷ 61 ∷ right) → NameAhead (at + n + 2) m rest → nameOf s at n ≡ got (alike at n (at + n + 2) m) (at + n + 2 + m)
+  unfolding nameOf rightOf
+  two-given at n m right rest a b =
+      let first : getD s (at + n) 0 ≡ 61 = next-byte s (at + n) _ (a .after) in
+      let second : getD s (at + n + 1) 0 ≡ 61 = next-byte s (at + n + 1) _ (past-byte s (at + n) 61 _ (a .after)) in
+      rw (le-leb n 15 (a .short), first, second, b .letter, b .runs, le-leb m 15 (b .short))
+
   name-operand : (p n : ℕ) → IsOperand (name p n)
-  unfolding IsOperand end written Placed nameOf
+  unfolding IsOperand end written Placed
   name-operand p n at rest f a b l =
-      let w = name-is (take n (drop p s)) (a .places .2) in
-      let long : length (take n (drop p s)) ≡ n = length-take-le n (drop p s) (omega (arith, length-drop p s, a .places .1)) in
-      let inside : at < length s = omega (arith, a .places .0, a .places .1, w .some) in
-      let first : getD s at 0 ≡ getD (take n (drop p s)) 0 0 = next-byte s at _ (a .text) ∙ List·getD-append (take n (drop p s)) rest 0 0 (w .some) in
-      let runs : run (drop at s) ≡ n = ap run (a .text) ∙ runs-out (take n (drop p s)) rest (w .all) (a .apart) ∙ long in
-      go f l inside (ap startOf first ∙ letter-starts _ (w .letter)) runs (omega (arith, w .short)) (sym (a .places .0)) long
-    where
-      go : (f : ℕ) → 2 * (length s - at) ≤ f → at < length s → startOf (getD s at 0) ≡ Name → run (drop at s) ≡ n → n ≤ 15 → at ≡ p → length (take n (drop p s)) ≡ n → operandOf f s at ≡ got (name p n) (at + length (take n (drop p s)))
-      go zero l i st rn sh pl lo = absurd (omega arith)
-      go (suc f) l i st rn sh pl lo = rw (steps.operand-name f s at st, rn, le-leb n 15 sh, lo, pl)
+      let w = name-ahead at p n (a .places) rest (a .text) (a .apart .word) in
+      name-given at n rest f (name p n) _ w l (bare-given at n rest w (a .apart) ∙ rw (name-long at p n (a .places), a .places .0))
+
+  bit-of-operand : (p n i : ℕ) → IsOperand (bitOf p n i)
+  unfolding IsOperand end written Placed classOf isWordClass
+  bit-of-operand p n i at rest f a b l =
+      let tail : List ℕ = 91 ∷ (digits i ++ (93 ∷ [])) in
+      let text : drop at s ≡ take n (drop p s) ++ (91 ∷ (digits i ++ (93 ∷ rest))) =
+      a .text ∙ append-assoc (take n (drop p s)) tail rest ∙ ap (λ (x : List ℕ). take n (drop p s) ++ (91 ∷ x)) (append-assoc (digits i) (93 ∷ []) rest) in
+      let w = name-ahead at p n (a .places) _ text refl in
+      let to : at + n + 1 + length (digits i) + 1 ≡ at + length (take n (drop p s) ++ tail) =
+      omega (arith, name-long at p n (a .places), length-append (take n (drop p s)) tail, length-append (digits i) (93 ∷ [])) in
+      name-given at n _ f (bitOf p n i) _ w l (index-given at n i rest w ∙ rw (to, a .places .0))
+
+  alike-operand : (p n q m : ℕ) → IsOperand (alike p n q m)
+  unfolding IsOperand end written Placed classOf isWordClass
+  alike-operand p n q m at rest f a b l =
+      let tail : List ℕ = 61 ∷ 61 ∷ take m (drop q s) in
+      let w = name-ahead at p n (a .places .0) _ (a .text ∙ append-assoc (take n (drop p s)) tail rest) refl in
+      let z : at + n + 1 + 1 ≡ at + n + 2 = omega arith in
+      let second : drop (at + n + 2) s ≡ take m (drop q s) ++ rest = ap (λ (x : ℕ). drop x s) (sym z) ∙ past-byte s (at + n + 1) 61 _ (past-byte s (at + n) 61 _ (w .after)) in
+      let v = name-ahead (at + n + 2) q m (a .places .1) rest second (a .apart .word) in
+      let to : at + n + 2 + m ≡ at + length (take n (drop p s) ++ tail) =
+      omega (arith, name-long at p n (a .places .0), name-long (at + n + 2) q m (a .places .1), length-append (take n (drop p s)) tail) in
+      name-given at n _ f (alike p n q m) _ w l (two-given at n m _ rest w v ∙ rw (to, a .places .0 .0, a .places .1 .0))
 
   bit-operand : (b : ℕ) → IsOperand (bit b)
   unfolding IsOperand end written Placed
@@ -145,6 +263,8 @@ module _ (s : List ℕ) where
   binds : (e : Tree) (at : ℕ) → Placed s at e → 0 < bindingOf e
   unfolding bindingOf Placed strengthOf
   binds (name p n) at h = omega arith
+  binds (bitOf p n i) at h = omega arith
+  binds (alike p n q m) at h = omega arith
   binds (bit b) at h = omega arith
   binds (not e) at h = omega arith
   binds (group e) at h = omega arith
@@ -204,6 +324,8 @@ module _ (s : List ℕ) where
   reads : (e : Tree) → Reads e
   unfolding IsOperand bindingOf
   reads (name p n) = record { operand = name-operand p n; formula = alone (name p n) refl (name-operand p n) }
+  reads (bitOf p n i) = record { operand = bit-of-operand p n i; formula = alone (bitOf p n i) refl (bit-of-operand p n i) }
+  reads (alike p n q m) = record { operand = alike-operand p n q m; formula = alone (alike p n q m) refl (alike-operand p n q m) }
   reads (bit b) = record { operand = bit-operand b; formula = alone (bit b) refl (bit-operand b) }
   reads (not e) = let h = not-operand e (reads e .operand) in record { operand = h; formula = alone (not e) refl h }
   reads (group e) = let h = group-operand e (reads e .formula) in record { operand = h; formula = alone (group e) refl h }
@@ -215,8 +337,7 @@ module _ (s : List ℕ) where
 
   module _ (e : Tree) (h : IsFormula s e) where
     all : Ahead 0 e []
-    unfolding classOf isWordClass
-    all = record { text = sym (append-nil (written s e) ∙ h .text); places = h .places; groups = h .groups; apart = refl }
+    all = record { text = sym (append-nil (written s e) ∙ h .text); places = h .places; groups = h .groups; apart = apart-end }
 
     to-end : end 0 e ≡ length s
     unfolding end

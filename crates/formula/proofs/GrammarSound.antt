@@ -1,6 +1,6 @@
 -- What the grammar's readers give is a formula, written where it was read. Assumes nothing.
 use mathlib.Core.Path.{_≡_, refl, ap, sym, subst, _∙_}
-use mathlib.Core.Bool.{Bool, true, false}
+use mathlib.Core.Bool.{Bool, true, false, _&&_}
 use mathlib.Core.List.{List, [], _∷_, _++_, append-assoc, append-nil}
 use Prim.Native.Nat.{ℕ, zero, suc, _+_, _*_, _-_, _≤_, _<_}
 use native.Mathlib.Omega.{arith}
@@ -8,12 +8,16 @@ use borrow.Author.Tests.{leb-true, eqb-true, ltb-true, ltb-false}
 use lib.Dec.{leb, eqb, ltb}
 use lib.ListN.{length, getD, take, drop, length-append, length-drop, take-append-drop, List·getD-eq-default}
 use lib.Seq.{drop-drop, getD-drop, length-take-le, drop-length}
+use Rattle.text.specs.Numbers.{digits, leadingDigits, valueFrom}
+use Rattle.text.proofs.NumberLaws.{and-both}
 use Rattle.formula.specs.declared.Start.{Start}
 use Rattle.formula.specs.declared.Start.the-variants.{Not, Group, Bit, Name, Nothing}
-use Rattle.formula.specs.Classes.{pick, strengthOf, startOf, run}
+use Rattle.formula.specs.Classes.{pick, classOf, strengthOf, isLetter, startOf, run}
 use Rattle.formula.specs.Grammar.{
   Tree,
   name,
+  bitOf,
+  alike,
   bit,
   not,
   group,
@@ -22,6 +26,9 @@ use Rattle.formula.specs.Grammar.{
   failed,
   got,
   andThen,
+  isIndex,
+  indexOf,
+  rightOf,
   nameOf,
   closed,
   operandOf,
@@ -32,13 +39,14 @@ use Rattle.formula.specs.Grammar.{
   whole,
   treeOf,
 }
-use Rattle.formula.specs.Claims.{written, Placed, tightest, bindingOf, Grouped, IsFormula}
+use Rattle.formula.specs.Claims.{written, NameAt, Placed, tightest, bindingOf, Grouped, IsFormula}
 use Rattle.formula.proofs.Runs.{run-le, run-inside}
-use Rattle.formula.proofs.ByteLaws.{here, operator, strength-small, start-not, start-group, start-bit, start-name, run-name}
+use Rattle.formula.proofs.ByteLaws.{here, operator, strength-small, start-not, start-group, start-bit, start-name, letter-starts, run-name}
+use Rattle.formula.proofs.IndexLaws.{each-leading, leading-text, index-digits}
 use Rattle.formula.proofs.Steps as steps
 
 -- what holds of the tree and of the place past it, where there is one
-abbrev Gives : (Tree → ℕ → Type 0) → Got → Type 0
+abbrev pub Gives : (Tree → ℕ → Type 0) → Got → Type 0
 Gives P failed = Unit
 Gives P (got e to) = P e to
 
@@ -71,33 +79,140 @@ module _ (s : List ℕ) where
     pub binds : k < bindingOf e
     pub stops : strengthOf (getD s to 0) ≤ k
 
-  name-stands : (at : ℕ) → startOf (getD s at 0) ≡ Name → Gives (Operand at) (nameOf at (run (drop at s)))
-  unfolding nameOf written Placed Grouped bindingOf
-  name-stands at h = go (leb (run (drop at s)) 15) refl
+  -- ---- names
+
+  -- a name stands from `at` on, n long
+  record Named (at n : ℕ) : Type 0 where
+    pub text : drop at s ≡ take n (drop at s) ++ drop (at + n) s
+    pub long : length (take n (drop at s)) ≡ n
+    pub some : 0 < n
+    pub is : NameAt s at at n
+
+  named : (at : ℕ) → startOf (getD s at 0) ≡ Name → run (drop at s) ≤ 15 → Named at (run (drop at s))
+  named at h short =
+      let i = steps.starts s at Name h (omega arith) in
+      let z : at + 0 ≡ at = omega arith in
+      let letter : getD (drop at s) 0 0 ≡ getD s at 0 = getD-drop at s 0 0 ∙ ap (λ (x : ℕ). getD s x 0) z in
+      record {
+        text = sym (take-append-drop (run (drop at s)) (drop at s)) ∙ ap (λ (l : List ℕ). take (run (drop at s)) (drop at s) ++ l) (drop-drop (run (drop at s)) at s);
+        long = length-take-le (run (drop at s)) (drop at s) (run-le (drop at s));
+        some = steps.named s at h;
+        is = (refl, run-inside s at (omega arith), run-name (drop at s) (rw letter (start-name (getD s at 0) h)) (omega (arith, length-drop at s)) short);
+      }
+
+  module _ (at n : ℕ) (name-at : Named at n) where
+    bare-stands : Operand at (name at n) (at + n)
+    unfolding written Placed Grouped bindingOf
+    bare-stands =
+        record {
+          stands = record {
+            text = name-at .text;
+            ends = omega (arith, name-at .long);
+            more = omega (arith, name-at .some);
+            inside = name-at .is .1;
+            places = name-at .is;
+            groups = tt;
+          };
+          binds = refl;
+        }
+
+    -- with what follows it
+    name-then : (tail : List ℕ) (to : ℕ) → drop (at + n) s ≡ tail ++ drop to s → drop at s ≡ (take n (drop at s) ++ tail) ++ drop to s
+    name-then tail to h = name-at .text ∙ ap (λ (l : List ℕ). take n (drop at s) ++ l) h ∙ sym (append-assoc (take n (drop at s)) tail (drop to s))
+
+    bit-of-stands : (ds : List ℕ) (i to : ℕ) → digits i ≡ ds → to ≡ at + n + 1 + length ds →
+        getD s (at + n) 0 ≡ 91 → drop (at + n + 1) s ≡ ds ++ drop to s → getD s to 0 ≡ 93 → Operand at (bitOf at n i) (to + 1)
+    unfolding written Placed Grouped bindingOf
+    bit-of-stands ds i to e l opens digits-text closes =
+        let before = steps.inside s (at + n) (omega arith) in
+        let after = steps.inside s to (omega arith) in
+        record {
+          stands = record {
+            text = name-then (91 ∷ (digits i ++ (93 ∷ []))) (to + 1)
+                (here s (at + n) before ∙ rw (opens, digits-text, here s to after, closes, e, append-assoc ds (93 ∷ []) (drop (to + 1) s)));
+            ends = rw e (omega (arith, name-at .long, length-append (take n (drop at s)) (91 ∷ (ds ++ (93 ∷ []))), length-append ds (93 ∷ [])));
+            more = omega arith;
+            inside = omega arith;
+            places = name-at .is;
+            groups = tt;
+          };
+          binds = refl;
+        }
+
+    index-stands : getD s (at + n) 0 ≡ 91 → Gives (Operand at) (indexOf s at n (at + n + 1) (leadingDigits (drop (at + n + 1) s)))
+    unfolding indexOf
+    index-stands opens = go (isIndex ds && eqb (getD s (to + length ds) 0) 93) refl
+      where
+        to : ℕ
+        to = at + n + 1
+
+        ds : List ℕ
+        ds = leadingDigits (drop to s)
+
+        go : (t : Bool) → (isIndex ds && eqb (getD s (to + length ds) 0) 93) ≡ t →
+            Gives (Operand at) (pick t (got (bitOf at n (valueFrom 0 ds)) (to + length ds + 1)) failed)
+        go true x =
+            let both = and-both _ _ x in
+            bit-of-stands ds (valueFrom 0 ds) (to + length ds) (index-digits ds (each-leading (drop to s)) (both .0)) refl opens
+            (leading-text (drop to s) ∙ ap (λ (l : List ℕ). ds ++ l) (drop-drop (length ds) to s)) (eqb-true _ _ (both .1))
+        go false x = tt
+
+    two-stand : (m : ℕ) → getD s (at + n) 0 ≡ 61 → getD s (at + n + 1) 0 ≡ 61 → Named (at + n + 2) m → Operand at (alike at n (at + n + 2) m) (at + n + 2 + m)
+    unfolding written Placed Grouped bindingOf
+    two-stand m first second right =
+        let z : at + n + 1 + 1 ≡ at + n + 2 = omega arith in
+        let i = steps.inside s (at + n) (omega arith) in
+        let j = steps.inside s (at + n + 1) (omega arith) in
+        record {
+          stands = record {
+            text = name-then (61 ∷ 61 ∷ take m (drop (at + n + 2) s)) (at + n + 2 + m)
+                (here s (at + n) i ∙ rw (first, here s (at + n + 1) j, second, z) (ap (λ (l : List ℕ). 61 ∷ 61 ∷ l) (right .text)));
+            ends = omega (arith, name-at .long, right .long, length-append (take n (drop at s)) (61 ∷ 61 ∷ take m (drop (at + n + 2) s)));
+            more = omega arith;
+            inside = right .is .1;
+            places = (name-at .is, right .is);
+            groups = tt;
+          };
+          binds = refl;
+        }
+
+    alike-stands : getD s (at + n) 0 ≡ 61 → getD s (at + n + 1) 0 ≡ 61 → Gives (Operand at) (rightOf s at n (at + n + 2) (run (drop (at + n + 2) s)))
+    unfolding rightOf
+    alike-stands first second = go (isLetter (classOf (getD s (at + n + 2) 0)) && leb (run (drop (at + n + 2) s)) 15) refl
+      where
+        go : (t : Bool) → (isLetter (classOf (getD s (at + n + 2) 0)) && leb (run (drop (at + n + 2) s)) 15) ≡ t →
+            Gives (Operand at) (pick t (got (alike at n (at + n + 2) (run (drop (at + n + 2) s))) (at + n + 2 + run (drop (at + n + 2) s))) failed)
+        go true x =
+            let both = and-both _ _ x in
+            two-stand (run (drop (at + n + 2) s)) first second (named (at + n + 2) (letter-starts (getD s (at + n + 2) 0) (both .0)) (leb-true _ _ (both .1)))
+        go false x = tt
+
+  name-stands : (at : ℕ) → startOf (getD s at 0) ≡ Name → Gives (Operand at) (nameOf s at (run (drop at s)))
+  unfolding nameOf
+  name-stands at h = go (leb n 15) refl (eqb (getD s (at + n) 0) 91) refl (eqb (getD s (at + n) 0) 61 && eqb (getD s (at + n + 1) 0) 61) refl
     where
-      inside : at + run (drop at s) ≤ length s
-      inside = run-inside s at (omega (arith, steps.starts s at Name h (omega arith)))
+      n : ℕ
+      n = run (drop at s)
 
-      long : length (take (run (drop at s)) (drop at s)) ≡ run (drop at s)
-      long = length-take-le (run (drop at s)) (drop at s) (run-le (drop at s))
+      go : (t : Bool) → leb n 15 ≡ t → (t2 : Bool) → eqb (getD s (at + n) 0) 91 ≡ t2 → (t3 : Bool) → (eqb (getD s (at + n) 0) 61 && eqb (getD s (at + n + 1) 0) 61) ≡ t3 →
+          Gives (Operand at)
+          (pick t
+          (pick t2 (indexOf s at n (at + n + 1) (leadingDigits (drop (at + n + 1) s)))
+          (pick t3 (rightOf s at n (at + n + 2) (run (drop (at + n + 2) s)))
+          (got (name at n) (at + n))))
+          failed)
+      go true x true x2 t3 x3 = index-stands at n (named at h (leb-true _ _ x)) (eqb-true _ _ x2)
+      go true x false x2 true x3 = let both = and-both _ _ x3 in alike-stands at n (named at h (leb-true _ _ x)) (eqb-true _ _ (both .0)) (eqb-true _ _ (both .1))
+      go true x false x2 false x3 = bare-stands at n (named at h (leb-true _ _ x))
+      go false x t2 x2 t3 x3 = tt
 
-      letter : getD (drop at s) 0 0 ≡ getD s at 0
-      letter = let z : at + 0 ≡ at = omega arith in getD-drop at s 0 0 ∙ ap (λ (x : ℕ). getD s x 0) z
+  -- a name and what belongs to it end within the field
+  pub name-inside : (at : ℕ) (e : Tree) (to : ℕ) → startOf (getD s at 0) ≡ Name → nameOf s at (run (drop at s)) ≡ got e to → (at < to) × (to ≤ length s)
+  name-inside at e to h is =
+      let o : Operand at e to = subst (Gives (Operand at)) is (name-stands at h) in
+      (o .stands .more, o .stands .inside)
 
-      go : (t : Bool) → leb (run (drop at s)) 15 ≡ t → Gives (Operand at) (pick t (got (name at (run (drop at s))) (at + run (drop at s))) failed)
-      go true x =
-          record {
-            stands = record {
-              text = sym (take-append-drop (run (drop at s)) (drop at s)) ∙ ap (λ (l : List ℕ). take (run (drop at s)) (drop at s) ++ l) (drop-drop (run (drop at s)) at s);
-              ends = omega (arith, long);
-              more = omega (arith, steps.named s at h);
-              inside = inside;
-              places = (refl, inside, run-name (drop at s) (rw letter (start-name (getD s at 0) h)) (omega (arith, length-drop at s, steps.starts s at Name h (omega arith))) (leb-true _ _ x));
-              groups = tt;
-            };
-            binds = refl;
-          }
-      go false x = tt
+  -- ---- other forms
 
   bit-stands : (at : ℕ) → startOf (getD s at 0) ≡ Bit → Operand at (bit (getD s at 0)) (at + 1)
   unfolding written Placed Grouped bindingOf

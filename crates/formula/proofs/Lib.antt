@@ -4,6 +4,7 @@ pub mod ByteLaws
 pub mod Examples
 pub mod GrammarComplete
 pub mod GrammarSound
+pub mod IndexLaws
 pub mod NameLaws
 pub mod PostfixLaws
 pub mod Runs

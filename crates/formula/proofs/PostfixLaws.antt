@@ -3,14 +3,15 @@
 use mathlib.Core.Path.{_≡_, ap}
 use mathlib.Core.Bool.{true}
 use mathlib.Core.List.{List, [], _∷_, _++_}
-use Prim.Native.Nat.{ℕ, _+_, _-_, _/_, _%_, _≤_, _<_}
+use Prim.Native.Nat.{ℕ, _+_, _-_, _/_, _%_, _≤_, _<_, min}
 use native.Mathlib.Omega.{arith}
 use lib.ListN.{length, take, drop, length-append, length-drop}
 use lib.Seq.{length-take-le}
+use Rattle.text.specs.Numbers.{digits}
 use Rattle.formula.specs.declared.Start.the-variants.{Bit}
 use Rattle.formula.specs.Classes.{strengthOf, startOf, isName}
-use Rattle.formula.specs.Grammar.{Tree, name, bit, not, group, join, tree, treeOf}
-use Rattle.formula.specs.Reading.{nameWord, byteWord, postfix}
+use Rattle.formula.specs.Grammar.{Tree, name, bitOf, alike, bit, not, group, join, tree, treeOf}
+use Rattle.formula.specs.Reading.{nameWord, bitWord, alikeWord, byteWord, postfix}
 use Rattle.formula.specs.Claims.{written, Placed, IsFormula}
 use Rattle.formula.proofs.ByteLaws.{operator-strength, bit-starts, name-is}
 use Rattle.formula.proofs.GrammarSound.{sound}
@@ -43,11 +44,53 @@ pub byte-word-back : (b : ℕ) → byteWord b - 4096 ≡ b
 unfolding byteWord
 byte-word-back b = omega arith
 
+pub byte-word-small : (b : ℕ) → b < 256 → byteWord b < 8192
+unfolding byteWord
+byte-word-small b h = omega arith
+
+pub bit-word-large : (p n i : ℕ) → 8192 ≤ bitWord p n i
+unfolding bitWord
+bit-word-large p n i = omega arith
+
+-- two names compared; their words stand apart in the word
+pub alike-word-large : (p n q m : ℕ) → 16777216 ≤ alikeWord p n q m
+unfolding alikeWord
+alike-word-large p n q m = omega arith
+
+module _ (p n : ℕ) where
+  module _ (i : ℕ) (h : nameWord p n < 4096) where
+    pub bit-word-small : bitWord p n i < 16777216
+    unfolding bitWord
+    bit-word-small = omega arith
+
+    pub bit-word-name : bitWord p n i % 4096 ≡ nameWord p n
+    unfolding bitWord
+    bit-word-name = omega arith
+
+    pub bit-word-bit : bitWord p n i / 8192 - 1 ≡ min i 16
+    unfolding bitWord
+    bit-word-bit = omega arith
+
+  module _ (q m : ℕ) (h : nameWord p n < 4096) (k : nameWord q m < 4096) where
+    pub alike-word-left : (alikeWord p n q m - 16777216) / 4096 ≡ nameWord p n
+    unfolding alikeWord
+    alike-word-left = omega arith
+
+    pub alike-word-right : alikeWord p n q m % 4096 ≡ nameWord q m
+    unfolding alikeWord
+    alike-word-right = omega arith
+
+    pub alike-word-bound : alikeWord p n q m < 33554432
+    unfolding alikeWord
+    alike-word-bound = omega arith
+
 -- ---- all words
 
 pub words-some : (e : Tree) → 0 < length (postfix e)
 unfolding postfix
 words-some (name p n) = omega arith
+words-some (bitOf p n i) = omega arith
+words-some (alike p n q m) = omega arith
 words-some (bit b) = omega arith
 words-some (not e) = omega (arith, length-append (postfix e) (byteWord 33 ∷ []))
 words-some (group e) = words-some e
@@ -56,6 +99,8 @@ words-some (join b e e2) = omega (arith, length-append (postfix e ++ postfix e2)
 -- what the tree of a field has for names, bits and operators
 abbrev pub InField : List ℕ → Tree → Type 0
 InField s (name p n) = NameIn s p n
+InField s (bitOf p n i) = NameIn s p n
+InField s (alike p n q m) = NameIn s p n × NameIn s q m
 InField s (bit b) = startOf b ≡ Bit
 InField s (not e) = InField s e
 InField s (group e) = InField s e
@@ -71,6 +116,8 @@ module _ (s : List ℕ) where
   placed-field : (at : ℕ) (e : Tree) → Placed s at e → InField s e
   unfolding Placed
   placed-field at (name p n) h = name-in p n (h .1) (h .2)
+  placed-field at (bitOf p n i) h = name-in p n (h .1) (h .2)
+  placed-field at (alike p n q m) h = (name-in p n (h .0 .1) (h .0 .2), name-in q m (h .1 .1) (h .1 .2))
   placed-field at (bit b) h = bit-starts h
   placed-field at (not e) h = placed-field (at + 1) e h
   placed-field at (group e) h = placed-field (at + 1) e h
@@ -79,6 +126,8 @@ module _ (s : List ℕ) where
   words-written : (at : ℕ) (e : Tree) → Placed s at e → length (postfix e) ≤ length (written s e)
   unfolding Placed postfix written
   words-written at (name p n) h = name-is (take n (drop p s)) (h .2) .some
+  words-written at (bitOf p n i) h = omega (arith, length-append (take n (drop p s)) (91 ∷ (digits i ++ (93 ∷ []))))
+  words-written at (alike p n q m) h = omega (arith, length-append (take n (drop p s)) (61 ∷ 61 ∷ take m (drop q s)))
   words-written at (bit b) h = omega arith
   words-written at (not e) h = omega (arith, words-written (at + 1) e h, length-append (postfix e) (byteWord 33 ∷ []))
   words-written at (group e) h = omega (arith, words-written (at + 1) e h, length-append (written s e) (41 ∷ []))

@@ -6,7 +6,7 @@ use mathlib.Core.List.{List, [], _∷_, _++_}
 use Prim.Native.Nat.{ℕ, zero, suc, _+_, _*_, _-_, _≤_, _<_, max}
 use native.Mathlib.Omega.{arith}
 use native.Mathlib.Decide.{decLt}
-use lib.Dec.{leb, eqb}
+use lib.Dec.{eqb}
 use lib.ListN.{length, getD, drop, set, length-append, List·getD-eq-default}
 use lib.Seq.{sets}
 use borrow.Author.Tests.{lt-ltb, le-ltb, eqb-true}
@@ -20,7 +20,6 @@ use Rattle.formula.specs.declared.readers.Read.the-variants.{Failed, Don
 use Rattle.formula.specs.Classes.{pick, classOf, strengthOf, isLetter, startOf, run}
 use Rattle.formula.specs.Grammar.{
   Tree,
-  name,
   bit,
   not,
   group,
@@ -36,7 +35,7 @@ use Rattle.formula.specs.Grammar.{
   restOf,
   depthOf,
 }
-use Rattle.formula.specs.Reading.{nameWord, byteWord, postfix}
+use Rattle.formula.specs.Reading.{byteWord, postfix}
 use Rattle.formula.specs.Private.Readers.{
   Room,
   LeftRoom,
@@ -50,8 +49,6 @@ use Rattle.formula.specs.Private.Readers.{
   closedOf,
   countedOf,
   putOf,
-  namedOf,
-  nameStored,
   Reads,
 }
 
@@ -73,7 +70,7 @@ unfolding operandOf
 operand-bit f s at h = rw (h, operandOf)
 
 pub operand-name : (f : ℕ) (s : List ℕ) (at : ℕ) → startOf (getD s at 0) ≡ Name →
-    operandOf (suc f) s at ≡ nameOf at (run (drop at s))
+    operandOf (suc f) s at ≡ nameOf s at (run (drop at s))
 unfolding operandOf
 operand-name f s at h = rw (h, operandOf)
 
@@ -196,16 +193,6 @@ pub reads-bit : (out out2 : List ℕ) (r : Read) (at n b : ℕ) → r ≡ counte
 unfolding Reads depthOf postfix
 reads-bit out out2 r at n b hr ho = (hr, ho)
 
-pub reads-name : (s out out2 : List ℕ) (r : Read) (at n : ℕ) → r ≡ namedOf s at n → out2 ≡ nameStored s at out n →
-    Reads out n out2 r (nameOf at (run (drop at s)))
-unfolding Reads depthOf postfix nameOf
-reads-name s out out2 r at n hr ho = go (leb (run (drop at s)) 15) hr ho
-  where
-    go : (t : Bool) → r ≡ pick t (Done (at + run (drop at s)) (n + 1) 0) Failed → out2 ≡ pick t (set out n (nameWord at (run (drop at s)))) out →
-        Reads out n out2 r (pick t (got (name at (run (drop at s))) (at + run (drop at s))) failed)
-    go true h k = (h, k)
-    go false h k = h
-
 -- The readers' contracts, step by step: `Holds` is what a reader from `at` says of every bound on the
 -- depth of calls that is large enough.
 
@@ -304,13 +291,6 @@ bounds-closed s at n (Done x y z) b = go (eqb (getD s x 0) 41) refl
     go : (t : Bool) → eqb (getD s x 0) 41 ≡ t → Bounds (length s) at n (deeperOf (pick t (Done (x + 1) y z) Failed))
     go true e = let i : x < length s = inside s x (omega (arith, eqb-true (getD s x 0) 41 e)) in omega arith
     go false e = tt
-
-pub bounds-name : (s : List ℕ) (at n : ℕ) → 0 < run (drop at s) → at + run (drop at s) ≤ length s → Bounds (length s) at n (namedOf s at n)
-bounds-name s at n h i = go (leb (run (drop at s)) 15)
-  where
-    go : (t : Bool) → Bounds (length s) at n (pick t (Done (at + run (drop at s)) (n + 1) 0) Failed)
-    go true = omega arith
-    go false = tt
 
 pub bounds-rest : (len at n : ℕ) (left r : Read) → Bounds len at n left → RestBounds len left r → Bounds len at n r
 bounds-rest len at n left Failed b c = tt

@@ -6,13 +6,16 @@ use mathlib.Core.List.{List, [], _∷_, _++_, List·Memᴰ}
 use Prim.Native.Nat.{ℕ, _+_, _≤_, _<_}
 use lib.ListN.{length, take, drop}
 use Rattle.text.specs.Quoted.{byte, bytes}
+use Rattle.text.specs.Numbers.{digits}
 use Rattle.formula.specs.Classes.{strengthOf, isName}
-use Rattle.formula.specs.Grammar.{Tree, name, bit, not, group, join, tree, treeOf}
+use Rattle.formula.specs.Grammar.{Tree, name, bitOf, alike, bit, not, group, join, tree, treeOf}
 
 -- names, `0`, `1`, brackets and operators, no blanks: the tree written out, its names as they stand in
--- the field s
+-- the field s. `name[n]` is one bit, n without leading zero; `left==right` compares two names.
 unfoldable pub written : List ℕ → Tree → List ℕ
 written s (name p n) = take n (drop p s)
+written s (bitOf p n i) = take n (drop p s) ++ (byte "[" ∷ (digits i ++ bytes "]"))
+written s (alike p n q m) = take n (drop p s) ++ (byte "=" ∷ byte "=" ∷ take m (drop q s))
 written s (bit b) = b ∷ []
 written s (not e) = byte "!" ∷ written s e
 written s (group e) = byte "(" ∷ (written s e ++ bytes ")")
@@ -22,11 +25,17 @@ written s (join b l r) = written s l ++ (b ∷ written s r)
 abbrev pub operators : List ℕ
 operators = bytes "&^|="
 
+-- the name of n bytes from p on stands at the place `at` of the field s
+abbrev pub NameAt : List ℕ → ℕ → ℕ → ℕ → Type 0
+NameAt s at p n = (p ≡ at) × (p + n ≤ length s) × (isName (take n (drop p s)) ≡ true)
+
 -- the tree written from the place `at` of the field s on: each name stands in the field at its own place
 -- and is a letter, then letters, digits or `_`, 1 to 15 bytes; a bit is `0` or `1`; an operator joins two
 -- formulas
 unfoldable pub Placed : List ℕ → ℕ → Tree → Type 0
-Placed s at (name p n) = (p ≡ at) × (p + n ≤ length s) × (isName (take n (drop p s)) ≡ true)
+Placed s at (name p n) = NameAt s at p n
+Placed s at (bitOf p n i) = NameAt s at p n
+Placed s at (alike p n q m) = NameAt s at p n × NameAt s (at + n + 2) q m
 Placed s at (bit b) = List·Memᴰ b (bytes "01")
 Placed s at (not e) = Placed s (at + 1) e
 Placed s at (group e) = Placed s (at + 1) e
@@ -48,6 +57,8 @@ pub record Order : Type 0 where
 -- binds tighter
 unfoldable pub bindingOf : Tree → ℕ
 bindingOf (name p n) = tightest
+bindingOf (bitOf p n i) = tightest
+bindingOf (alike p n q m) = tightest
 bindingOf (bit b) = tightest
 bindingOf (not e) = tightest
 bindingOf (group e) = tightest
@@ -58,6 +69,8 @@ bindingOf (join b l r) = strengthOf b
 -- strong. Within brackets stands a whole formula again, whatever joins it.
 unfoldable pub Grouped : Tree → Type 0
 Grouped (name p n) = Unit
+Grouped (bitOf p n i) = Unit
+Grouped (alike p n q m) = Unit
 Grouped (bit b) = Unit
 Grouped (not e) = (tightest ≤ bindingOf e) × (Grouped e)
 Grouped (group e) = Grouped e

@@ -7,7 +7,7 @@ use lib.Dec.{leb, eqb}
 use lib.ListN.{length}
 use Rattle.text.specs.Quoted.{byte}
 use Rattle.formula.specs.declared.Class.{Class}
-use Rattle.formula.specs.declared.Class.the-variants.{Other, Letter, Digit, Underscore, Operator, Opening, Closing, Tab, Lf}
+use Rattle.formula.specs.declared.Class.the-variants.{Other, Letter, Digit, Underscore, Operator, Opening, Closing, OpeningSquare, ClosingSquare, Tab, Lf}
 use Rattle.formula.specs.declared.Start.{Start}
 use Rattle.formula.specs.declared.Start.the-variants.{Not, Group, Bit, Name, Nothing}
 
@@ -20,7 +20,7 @@ abbrev pub within : ℕ → ℕ → ℕ → Bool
 within lo hi b = pick (leb lo b) (leb b hi) false
 
 -- Every byte value has one class. Letters are A to Z and a to z; operators are `! & ^ | =`; brackets are
--- `(` and `)`.
+-- `(` and `)`; `[` and `]` have classes of their own.
 unfoldable pub classOf : ℕ → Class
 classOf b =
     pick (within (byte "A") (byte "Z") b) Letter
@@ -34,8 +34,10 @@ classOf b =
     (pick (eqb b (byte "=")) Operator
     (pick (eqb b (byte "(")) Opening
     (pick (eqb b (byte ")")) Closing
+    (pick (eqb b (byte "[")) OpeningSquare
+    (pick (eqb b (byte "]")) ClosingSquare
     (pick (eqb b (byte "\t")) Tab
-    (pick (eqb b (byte "\n")) Lf Other))))))))))))
+    (pick (eqb b (byte "\n")) Lf Other))))))))))))))
 
 -- how tightly an operator between two operands binds: `&`, then `^`, `|`, and `=` loosest; any other
 -- byte is none
@@ -49,6 +51,8 @@ isLetter Underscore = false
 isLetter Operator = false
 isLetter Opening = false
 isLetter Closing = false
+isLetter OpeningSquare = false
+isLetter ClosingSquare = false
 isLetter Tab = false
 isLetter Lf = false
 isLetter Other = false
@@ -61,6 +65,8 @@ isWordClass Underscore = true
 isWordClass Operator = false
 isWordClass Opening = false
 isWordClass Closing = false
+isWordClass OpeningSquare = false
+isWordClass ClosingSquare = false
 isWordClass Tab = false
 isWordClass Lf = false
 isWordClass Other = false

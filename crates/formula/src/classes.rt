@@ -26,6 +26,10 @@ const TAB: u8 = 7;
 
 const LF: u8 = 8;
 
+const OPENING_SQUARE: u8 = 9;
+
+const CLOSING_SQUARE: u8 = 10;
+
 // The class of each byte value.
 const CLASS: [u8; 256] = [
     OTHER,
@@ -119,9 +123,9 @@ const CLASS: [u8; 256] = [
     LETTER,
     LETTER,
     LETTER,
+    OPENING_SQUARE,
     OTHER,
-    OTHER,
-    OTHER,
+    CLOSING_SQUARE,
     OPERATOR,
     UNDERSCORE,
     OTHER,
@@ -298,6 +302,8 @@ pub fn class_of(b: u8) -> Class
         OPERATOR => Class::Operator,
         OPENING => Class::Opening,
         CLOSING => Class::Closing,
+        OPENING_SQUARE => Class::OpeningSquare,
+        CLOSING_SQUARE => Class::ClosingSquare,
         TAB => Class::Tab,
         LF => Class::Lf,
         _ => Class::Other,
@@ -317,7 +323,7 @@ pub fn strength(b: u8) -> u8
     }
 }
 
-fn is_letter(b: u8) -> bool
+pub(crate) fn is_letter(b: u8) -> bool
     ensures { λ r. ⌜ r ≡ isLetter (classOf b) ⌝ }
 {
     match class_of(b) {

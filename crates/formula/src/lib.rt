@@ -9,6 +9,7 @@ ghost use Rattle.formula.specs.Reading.{answerOf, formulaOf};
 ghost use Rattle.formula.specs.Claims.{GrammarMeans};
 
 mod classes;
+mod names;
 mod readers;
 
 pub use classes::class_of;
@@ -26,6 +27,8 @@ pub enum Class {
     Operator,
     Opening,
     Closing,
+    OpeningSquare,
+    ClosingSquare,
     Tab,
     Lf,
 }
@@ -48,7 +51,7 @@ pub struct Formula {
     pub formed: bool,
     pub depth: usize,
     pub count: usize,
-    pub words: [u16; LONGEST_FORMULA],
+    pub words: [u32; LONGEST_FORMULA],
 }
 
 // A field that is no formula.

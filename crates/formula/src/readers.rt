@@ -3,15 +3,17 @@
 ghost use mathlib.Core.Path.{_≡_};
 ghost use mathlib.Core.List.{List};
 ghost use Prim.Native.Nat.{ℕ, _+_, _*_, _-_, _≤_, _<_};
-ghost use lib.ListN.{length};
-ghost use Rattle.formula.specs.Grammar.{Got, andThen, operandOf, expressionOf, restOf};
+ghost use lib.ListN.{length, getD, drop};
+ghost use Rattle.formula.specs.declared.Start.the-variants.{Name};
+ghost use Rattle.formula.specs.Classes.{startOf, run};
+ghost use Rattle.formula.specs.Grammar.{Got, andThen, nameOf, operandOf, expressionOf, restOf};
 ghost use Rattle.formula.specs.Reading.{byteWord};
-ghost use Rattle.formula.specs.Private.Readers.{Room, LeftRoom, Within, Writable, Bounds, RestBounds, Reads, leftOver, deeperOf, besideOf, closedOf, countedOf, putOf, namedOf, nameStored};
+ghost use Rattle.formula.specs.Private.Readers.{Room, LeftRoom, Within, Writable, Bounds, RestBounds, Reads, leftOver, deeperOf, besideOf, closedOf, countedOf, putOf};
 use crate::Start;
-use crate::classes::LONGEST_NAME;
-use crate::classes::name_end;
 use crate::classes::start_of;
 use crate::classes::strength;
+use crate::names::Word;
+use crate::names::name_word;
 use text::byte_at;
 
 // What a reader finds at a place: no such form; or the form, with the place after it, the place after its
@@ -81,20 +83,17 @@ fn closed(s: &[u8], r: Read) -> Read
     }
 }
 
-// The words of `0`, `1`, `!` and operators are this and their bytes; the words of names are less.
-const BYTES: u16 = 4096;
+// The words of `0`, `1`, `!` and operators are this and their bytes.
+const BYTES: u32 = 4096;
 
-// The word of a name is so many times its place, and its length.
-const PLACE: usize = 16;
-
-fn byte_word(b: u8) -> u16
+fn byte_word(b: u8) -> u32
     ensures { λ r. ⌜ r ≡ byteWord b ⌝ }
 {
-    BYTES + b as u16
+    BYTES + b as u32
 }
 
 // The form with the word of a byte after its words.
-fn with_byte(out: &mut [u16], r: Read, b: u8) -> Read
+fn with_byte(out: &mut [u32], r: Read, b: u8) -> Read
     requires { ⌜ Writable (length (now out)) r ⌝ }
     ensures { λ q. ⌜ (q ≡ countedOf r) × (now (out .exit) ≡ putOf (now (out .entry)) r b) ⌝ }
 {
@@ -111,27 +110,28 @@ fn with_byte(out: &mut [u16], r: Read, b: u8) -> Read
     }
 }
 
-// Reads the name that starts at a place, and stores its word at out[n].
-fn name(s: &[u8], at: usize, out: &mut [u16], n: usize) -> Read
-    requires { ⌜ (Room (now s) at (now out) n) × (at < length (now s)) ⌝ }
-    ensures { λ r. ⌜ (r ≡ namedOf (now (s .entry)) at n) × (now (out .exit) ≡ nameStored (now (s .entry)) at (now (out .entry)) n) ⌝ }
+// Reads the name that starts at a place, and what belongs to it, and stores its word at out[n].
+fn name(s: &[u8], at: usize, out: &mut [u32], n: usize) -> Read
+    requires { ⌜ (Room (now s) at (now out) n) × (startOf (getD (now s) at 0) ≡ Name) ⌝ }
+    ensures { λ r. ⌜ Bounds (length (now (s .entry))) at n r ⌝ }
+    ensures { λ r. ⌜ Reads (now (out .entry)) n (now (out .exit)) r (nameOf (now (s .entry)) at (run (drop at (now (s .entry))))) ⌝ }
 {
-    let end = name_end(s, at);
-    let len = end - at;
-    if len <= LONGEST_NAME {
-        out[n] = (at * PLACE + len) as u16;
-        Read::Done {
-            next: end,
-            count: n + 1,
-            depth: 0,
+    let found = name_word(s, at);
+    match found {
+        Word::Wrong => Read::Failed,
+        Word::Known { next, word } => {
+            out[n] = word;
+            Read::Done {
+                next,
+                count: n + 1,
+                depth: 0,
+            }
         }
-    } else {
-        Read::Failed
     }
 }
 
 // Reads an operand, and stores its words from out[n] on.
-fn operand(s: &[u8], at: usize, out: &mut [u16], n: usize) -> Read
+fn operand(s: &[u8], at: usize, out: &mut [u32], n: usize) -> Read
     requires { ⌜ Room (now s) at (now out) n ⌝ }
     ensures { λ r. ⌜ Bounds (length (now (s .entry))) at n r ⌝ }
     ensures { λ r. ⌜ ((f : ℕ) → 2 * (length (now (s .entry)) - at) ≤ f →
@@ -162,7 +162,7 @@ fn operand(s: &[u8], at: usize, out: &mut [u16], n: usize) -> Read
 }
 
 // Reads an operand and what operators stronger than `above` join to it, and stores the words from out[n] on.
-pub(crate) fn expression(s: &[u8], at: usize, out: &mut [u16], n: usize, above: u8) -> Read
+pub(crate) fn expression(s: &[u8], at: usize, out: &mut [u32], n: usize, above: u8) -> Read
     requires { ⌜ Room (now s) at (now out) n ⌝ }
     ensures { λ r. ⌜ Bounds (length (now (s .entry))) at n r ⌝ }
     ensures { λ r. ⌜ ((f : ℕ) → 2 * (length (now (s .entry)) - at) + 1 ≤ f →
@@ -173,7 +173,7 @@ pub(crate) fn expression(s: &[u8], at: usize, out: &mut [u16], n: usize, above: 
 }
 
 // Reads what operators stronger than `above` join to the form `left`, and stores the words after those of `left`.
-fn rest(s: &[u8], out: &mut [u16], left: Read, above: u8) -> Read
+fn rest(s: &[u8], out: &mut [u32], left: Read, above: u8) -> Read
     requires { ⌜ LeftRoom (now s) (now out) left ⌝ }
     ensures { λ r. ⌜ RestBounds (length (now (s .entry))) left r ⌝ }
     ensures { λ r. ⌜ ((f : ℕ) (g : Got) (before : List ℕ) (n : ℕ) → 2 * leftOver (length (now (s .entry))) left ≤ f →

@@ -1,10 +1,10 @@
 -- What the reader answers at its end, and what its answer tells. Assumes nothing.
-use Prim.Native.Nat.{ℕ}
+use Prim.Native.Nat.{ℕ, _+_}
 use mathlib.Core.Path.{_≡_, refl, ap}
 use native.Mathlib.Omega.{arith}
 use borrow.Author.Tests.{eq-eqb, ne-eqb}
 use lib.ListN.{length}
-use Rattle.assertion.specs.Graph.{Bytes, Graph}
+use Rattle.assertion.specs.Graph.{Bytes, Graph, signalBits, constantBits}
 use Rattle.graph.specs.Reading.{Outcome, refused, accepted, finished, graphOf}
 use Rattle.graph.specs.Held.{heldAs, heldOf, answerOf, readOf}
 use Rattle.graph.specs.declared.Cause.{Cause}
@@ -36,8 +36,9 @@ pub record CheckedText (text : Bytes) (g : CheckedGraph) : Type 0 where
   pub graph : Graph
   pub accepts : graphOf text ≡ accepted graph
   pub arrays : g ≡ heldOf text graph
-  pub signals-are : g .signals ≡ length (graph .signals)
-  pub constants-are : g .constants ≡ length (graph .constants)
+  pub named-is : g .named ≡ length (graph .signals) + length (graph .constants)
+  pub signals-are : g .signals ≡ signalBits graph
+  pub constants-are : g .constants ≡ constantBits graph
   pub vertices-are : g .vertices ≡ length (graph .vertices)
   pub edges-are : g .edges ≡ length (graph .edges)
   pub graph-sound : Sound text graph
@@ -50,6 +51,7 @@ checked-of text (accepted graph) o {r} e h =
       graph = graph;
       accepts = o;
       arrays = a;
+      named-is = ap (λ (x : CheckedGraph). x .named) a;
       signals-are = ap (λ (x : CheckedGraph). x .signals) a;
       constants-are = ap (λ (x : CheckedGraph). x .constants) a;
       vertices-are = ap (λ (x : CheckedGraph). x .vertices) a;

@@ -22,6 +22,10 @@ use Rattle.graph.specs.declared.ReadOutcome.the-variants.{Refused}
 use Rattle.graph.specs.declared.CheckedGraph.{CheckedGraph}
 use Rattle.graph.specs.declared.GraphRead.{GraphRead}
 use Rattle.graph.proofs.HeldLaws.{sound}
+use Rattle.graph.specs.WidthClaims.{WidthMeans}
+use Rattle.graph.specs.FormulaClaims.{FormulaMeans}
+use Rattle.graph.proofs.FormulaTextLaws.{formula-means}
+use Rattle.graph.proofs.WidthAnswerLaws.{width-means}
 use Rattle.graph.proofs.AnswerLaws.{CheckedText, checked-text}
 use Rattle.graph.proofs.ModeTextLaws.{refused-outcome, first-line, mode-again, word-wrong, word-missing, lf-missing}
 use Rattle.graph.proofs.MarkLaws.{mark-free}
@@ -113,7 +117,7 @@ module _ {text : Bytes} {g : CheckedGraph} (t : CheckedText text g) where
 -- ---- what is answered
 answered : (text : Bytes) {r : GraphRead} → r ≡ readOf text → (graph : Graph) → graphOf text ≡ accepted graph → Answered text graph r
 unfolding readOf answerOf heldOf heldAs
-answered text e graph h = rw (e, h) (record { checked = refl; held = refl; mode = refl; signals = refl; constants = refl; vertices = refl; edges = refl })
+answered text e graph h = rw (e, h) (record { checked = refl; held = refl; mode = refl; named = refl; signals = refl; constants = refl; vertices = refl; edges = refl })
 
 too-long : (text : Bytes) {r : GraphRead} → r ≡ readOf text → 32768 < length text → (cause : Cause) × (r .outcome ≡ Refused cause) × (refusalOf cause ≡ record { number = 1; line = 0 })
 unfolding graphOf refusalOf
@@ -138,5 +142,5 @@ mode-means text {r} e =
     }
 
 -- what the contract of read_graph says, by its equality
-pub claimed : (text : Bytes) {r : GraphRead} → r ≡ readOf text → (r ≡ readOf text) × (GraphMeans text × ModeMeans text r)
-claimed text e = (e, (λ graph h. sound text h, mode-means text e))
+pub claimed : (text : Bytes) {r : GraphRead} → r ≡ readOf text → (r ≡ readOf text) × (GraphMeans text × (ModeMeans text r × (WidthMeans text r × FormulaMeans text r)))
+claimed text e = (e, (λ graph h. sound text h, (mode-means text e, (width-means text e, formula-means text e))))

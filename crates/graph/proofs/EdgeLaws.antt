@@ -14,7 +14,7 @@ use Rattle.graph.specs.Private.Steps.{ArcAt, EdgeAt, arcFrom}
 use Rattle.graph.specs.declared.Arc.{Arc}
 use Rattle.graph.proofs.PieceLaws.{part-in}
 
-take-self : (n : ℕ) (l : Bytes) → take n l ≡ take (length (take n l)) l
+pub take-self : (n : ℕ) (l : Bytes) → take n l ≡ take (length (take n l)) l
 take-self zero l = refl
 take-self (suc n) [] = refl
 take-self (suc n) (x ∷ l) = ap (λ (m : Bytes). x ∷ m) (take-self n l)

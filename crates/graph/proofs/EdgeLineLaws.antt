@@ -19,7 +19,7 @@ use Rattle.graph.proofs.SplitLaws.{two-pieces, six-pieces}
 use Rattle.graph.proofs.FieldLaws.{EdgeFields, field-left, field-zero, end-byte}
 
 -- the bytes up to the first b have none
-none-empty : (b : ℕ) (left right : Bytes) → _≡_ {A = Bytes} [] (left ++ (b ∷ right)) → ⊥
+pub none-empty : (b : ℕ) (left right : Bytes) → _≡_ {A = Bytes} [] (left ++ (b ∷ right)) → ⊥
 none-empty b left right e = omega (arith, ap length e, length-append left (b ∷ right))
 
 up-to-free : (b : ℕ) (s left right : Bytes) → take (upTo b s) s ≡ left ++ (b ∷ right) → ⊥
@@ -47,7 +47,7 @@ part-free text n x y z e left right h =
     (e ∙ ap (λ (w : Bytes). x ++ (w ++ z)) h ∙ ap (λ (w : Bytes). x ++ w) (append-assoc left (10 ∷ right) z) ∙ sym (append-assoc x left (10 ∷ (right ++ z))))
 
 -- before a line another ends, or nothing stands
-starts-line : (text : Bytes) (n : ℕ) → lineStart text n ≤ length text → StartsLine (take (lineStart text n) text)
+pub starts-line : (text : Bytes) (n : ℕ) → lineStart text n ≤ length text → StartsLine (take (lineStart text n) text)
 unfolding lineStart
 starts-line text zero h = first refl
 starts-line text (suc n) h =

@@ -5,24 +5,28 @@ use mathlib.Core.Bool.{Bool, true, false}
 use mathlib.Core.List.{List, [], _∷_, _++_, map}
 use lib.ListN.{take, replicate}
 use Rattle.text.specs.Quoted.{bytes}
+use Rattle.text.specs.Numbers.{digitsOf, digits}
 use Rattle.formula.specs.Classes.{classOf, isLetter, isWordClass, strengthOf, startOf, run, nameBytes, isName}
 use Rattle.formula.specs.Grammar.{andThen, nameOf, closed, operandOf, expressionOf, restOf, whole, treeOf, depthOf}
-use Rattle.assertion.specs.Graph.{Bytes, Graph, signal, isTerminal}
+use Rattle.assertion.specs.Graph.{Bytes, Graph, bitsOf, signalBits, constantBits, signal, isTerminal}
 use Rattle.assertion.specs.declared.Mode.{Mode}
 use Rattle.assertion.specs.declared.Mode.the-variants.{Unsaid, Terminal, Strong}
-use Rattle.graph.specs.Pieces.{onto, split, upTo, endAt, pieceAt, same, placeOf, lookUp}
-use Rattle.graph.specs.Records.{moded, named, marked, edged, ofFields, recordOf}
+use Rattle.graph.specs.Pieces.{onto, split, upTo, endAt, pieceAt, same, placeOf, lookUp, placed, lookUpName}
+use Rattle.graph.specs.Records.{moded, numberTo, widthOf, sized, named, marked, edged, ofFields, recordOf}
 use Rattle.graph.specs.Reading.{
   faultNumber,
   known,
+  fits,
   joined,
   symbol,
+  runOf,
   resolved,
   judgedTree,
   treeExpr,
   lower,
   modeLines,
   addMode,
+  sizedName,
   addSignal,
   addConstant,
   addVertex,
@@ -37,7 +41,7 @@ use Rattle.graph.specs.Reading.{
   readLines,
   graphOf,
 }
-use Rattle.graph.specs.Held.{lineStart, lineOf, fieldStart, fieldLength, fieldAt, namePlaces, arcOf, arcsOf, noArc, filled, heldAs, heldOf, answerOf, readOf}
+use Rattle.graph.specs.Held.{lineStart, lineOf, fieldStart, fieldLength, fieldAt, symbolWord, symbolsOf, namePlaces, arcOf, arcsOf, noArc, filled, heldAs, heldOf, answerOf, readOf}
 use Rattle.graph.specs.declared.Fault.the-variants.{WrongShape, WrongOrder, NameRepeated, UnknownVertex, NotFormula, TooDeep, UnknownName}
 use Rattle.graph.specs.declared.ReadOutcome.the-variants.{Checked}
 use Rattle.graph.specs.declared.Cause.the-variants.{FaultyLine, NoVertex}
@@ -85,7 +89,7 @@ abbrev graphWith : Mode → Bool → Graph
 graphWith mode mark =
     record {
       mode = mode;
-      signals = p ∷ q ∷ [];
+      signals = sizedName p 1 ∷ sizedName q 1 ∷ [];
       constants = [];
       vertices = (97 ∷ []) ∷ (98 ∷ []) ∷ [];
       edges = record { from = 0; to = 1; marked = mark; antecedent = signal 0; consequent = signal 1; antecedentText = p; consequentText = q } ∷ [];
@@ -96,11 +100,12 @@ abbrev heldWith : Mode → ℕ → Bool → CheckedGraph
 heldWith mode n t =
     record {
       mode = mode;
+      named = 2;
       signals = 2;
       constants = 0;
       vertices = 2;
       edges = 1;
-      names = (n + 2) ∷ (n + 6) ∷ replicate 67 0;
+      names = symbolWord (n + 2) 1 0 1 ∷ symbolWord (n + 6) 1 1 1 ∷ replicate 67 0;
       points = (n + 10) ∷ (n + 14) ∷ replicate 62 0;
       arcs = record { from = 0; to = 1; terminal = t; left = n + 24; lefts = 1; right = n + 26; rights = 1 } ∷ replicate 127 noArc;
     }
@@ -162,7 +167,7 @@ record Examples : Type 0 where
   unknown-name : graphOf (Va ++ (Vb ++ Eab (49 ∷ []) p)) ≡ refused (FaultyLine UnknownName 3)
 
 examples : Examples
-unfolding classOf isLetter isWordClass strengthOf startOf run nameBytes isName andThen nameOf closed operandOf expressionOf restOf whole treeOf depthOf onto split upTo endAt pieceAt same placeOf lookUp moded named marked edged ofFields recordOf faultNumber known joined symbol resolved judgedTree treeExpr lower modeLines addMode addSignal addConstant addVertex edgeOf unlessFaulty judgeEdge addEdge add finished readLines graphOf lineStart lineOf fieldStart fieldLength fieldAt namePlaces arcOf arcsOf filled heldAs heldOf answerOf readOf isTerminal
+unfolding digitsOf digits numberTo widthOf bitsOf signalBits constantBits placed lookUpName fits runOf sized symbolWord symbolsOf classOf isLetter isWordClass strengthOf startOf run nameBytes isName andThen nameOf closed operandOf expressionOf restOf whole treeOf depthOf onto split upTo endAt pieceAt same placeOf lookUp moded named marked edged ofFields recordOf faultNumber known joined symbol resolved judgedTree treeExpr lower modeLines addMode addSignal addConstant addVertex edgeOf unlessFaulty judgeEdge addEdge add finished readLines graphOf lineStart lineOf fieldStart fieldLength fieldAt namePlaces arcOf arcsOf filled heldAs heldOf answerOf readOf isTerminal
 examples =
     record {
       graph-g = refl;

@@ -1,26 +1,30 @@
 -- The fields of a line's record, by their places in the text. Assumes nothing.
-use Prim.Native.Nat.{ℕ, suc, _+_, _-_, _≤_, _<_}
-use mathlib.Core.Path.{_≡_, refl, sym, ap, _∙_}
+use Prim.Native.Nat.{ℕ, zero, suc, _+_, _-_, _≤_, _<_}
+use mathlib.Core.Path.{_≡_, refl, sym, ap, subst, _∙_}
 use mathlib.Core.Bool.{Bool, true, false, cond}
-use mathlib.Core.List.{List, [], _∷_}
+use mathlib.Core.List.{List, [], _∷_, _++_, append-nil}
 use native.Mathlib.Nat.{add-zero}
 use native.Mathlib.Omega.{arith}
-use borrow.Author.Tests.{eqb-true}
+use borrow.Author.Tests.{eqb-true, eqb-false}
 use native.Mathlib.Decide.{decLt}
 use lib.Dec.{eqb}
 use lib.ListN.{length, getD, drop, length-take, length-drop}
 use lib.Seq.{length-take-le, getD-take, getD-drop}
 use Rattle.formula.specs.Classes.{pick, isName}
+use Rattle.formula.proofs.ByteLaws.{name-is}
 use Rattle.text.specs.Quoted.{bytes}
 use Rattle.assertion.specs.Graph.{Bytes}
 use Rattle.assertion.specs.declared.Mode.the-variants.{Terminal, Strong}
 use Rattle.graph.specs.Pieces.{split, upTo, endAt, pieceAt, same}
-use Rattle.graph.specs.Records.{Record, shapeless, mode, signal, constant, vertex, edge, moded, named, marked, edged, ofFields, recordOf}
-use Rattle.graph.specs.Claims.{FormulaAt}
+use Rattle.graph.specs.Records.{Record, shapeless, mode, signal, constant, vertex, edge, moded, widthOf, sized, named, marked, edged, ofFields, recordOf}
+use Rattle.graph.specs.Claims.{FormulaAt, WidthField}
+use Rattle.graph.specs.Claims.WidthField.{absent, given}
+use Rattle.graph.specs.Meaning.{IsWidth}
 use Rattle.graph.specs.Held.{lineStart, lineOf, fieldStart, fieldAt, fieldLength}
 use Rattle.graph.proofs.PieceLaws.{split-cut, split-last, split-some, piece-in, piece-last}
-use Rattle.graph.proofs.SplitLaws.{same-equal}
+use Rattle.graph.proofs.SplitLaws.{two-pieces, three-pieces, same-equal}
 use Rattle.graph.proofs.EdgeLaws.{field-in, up-to-inside}
+use Rattle.graph.proofs.WidthFieldLaws.{width-most, width-is}
 
 -- ---- the pieces from a place on
 module _ (b : ℕ) (s : Bytes) (p : ℕ) where
@@ -87,12 +91,25 @@ pub record EdgeFields (line : Bytes) : Type 0 where
   pub consequent : Bytes
   pub are : split 9 line ≡ (69 ∷ []) ∷ from ∷ to ∷ (mark ∷ []) ∷ antecedent ∷ consequent ∷ []
 
+-- the line of a signal or a constant
+pub record SymbolFields (line : Bytes) (kind : ℕ) (n : Bytes) (w : ℕ) : Type 0 where
+  pub field : Bytes
+  pub are : line ≡ kind ∷ 9 ∷ (n ++ field)
+  pub width : WidthField field w
+  pub is-name : isName n ≡ true
+  pub start : fieldStart line 1 ≡ 2
+  pub long : fieldLength line 1 ≡ length n
+
+-- the name of line k of a text
+abbrev pub NameAt : Bytes → ℕ → Bytes → Type 0
+NameAt text k n = FormulaAt text (fieldAt text k 1) (fieldLength (lineOf text k) 1) n
+
 -- ---- a record whose fields stand in line k of a text
 abbrev pub Fits : Bytes → ℕ → Record → Type 0
 Fits text k shapeless = Unit {0}
 Fits text k (mode m) = Unit {0}
-Fits text k (signal n) = pieceAt 10 text (fieldAt text k 1) ≡ n
-Fits text k (constant n) = pieceAt 10 text (fieldAt text k 1) ≡ n
+Fits text k (signal n w) = NameAt text k n × IsWidth w × (length n ≤ 15) × SymbolFields (lineOf text k) 83 n w
+Fits text k (constant n w) = NameAt text k n × IsWidth w × (length n ≤ 15) × SymbolFields (lineOf text k) 75 n w
 Fits text k (vertex n) = pieceAt 10 text (fieldAt text k 1) ≡ n
 Fits text k (edge f t m a c) =
     FormulaAt text (fieldAt text k 4) (fieldLength (lineOf text k) 4) a × FormulaAt text (fieldAt text k 5) (fieldLength (lineOf text k) 5) c × (getD text (fieldAt text k 4 - 2) 0 ≡ cond m 116 45) × EdgeFields (lineOf text k)
@@ -102,16 +119,37 @@ module _ (text : Bytes) (k : ℕ) where
   pick-fits true x y h g = h
   pick-fits false x y h g = g
 
-  named-fits : (kind n : Bytes) → pieceAt 10 text (fieldAt text k 1) ≡ n → Fits text k (named kind n)
-  unfolding named moded
-  named-fits kind n h =
-      pick-fits (same kind (77 ∷ [])) _ _ (pick-fits (same n (bytes "terminal")) (mode Terminal) _ tt (pick-fits (same n (bytes "strong")) (mode Strong) shapeless tt tt))
-      (pick-fits (isName n) _ shapeless
-      (pick-fits (same kind (83 ∷ [])) (signal n) _ h (pick-fits (same kind (75 ∷ [])) (constant n) _ h (pick-fits (same kind (86 ∷ [])) (vertex n) shapeless h tt))) tt)
-
   pick-fits-so : (t : Bool) (x y : Record) → (t ≡ true → Fits text k x) → Fits text k y → Fits text k (pick t x y)
   pick-fits-so true x y h g = h refl
   pick-fits-so false x y h g = g
+
+  -- what makes a line a signal's or a constant's
+  record Sized (kind n : Bytes) (w : ℕ) : Type 0 where
+    name : NameAt text k n
+    most : w ≤ 16
+    fields : (c : ℕ) → kind ≡ c ∷ [] → 1 ≤ w → isName n ≡ true → SymbolFields (lineOf text k) c n w
+
+  sized-fits : (kind n : Bytes) (w : ℕ) → Sized kind n w → Fits text k (sized kind n w)
+  unfolding sized
+  sized-fits kind n w h = pick-fits-so (isName n) _ shapeless (λ j. by j (eqb w 0) refl) tt
+    where
+      some : (v : ℕ) → (v ≡ 0 → ⊥) → 1 ≤ v
+      some zero f = absurd (f refl)
+      some (suc v) f = omega arith
+
+      by : isName n ≡ true → (t : Bool) → eqb w 0 ≡ t → Fits text k (pick t shapeless (pick (same kind (83 ∷ [])) (signal n w) (pick (same kind (75 ∷ [])) (constant n w) shapeless)))
+      by j true e = tt
+      by j false e =
+          let i : IsWidth w = record { some = some w (eqb-false w 0 e); most = h .most } in
+          let l = name-is n j .short in
+          pick-fits-so (same kind (83 ∷ [])) (signal n w) _ (λ c. (h .name, i, l, h .fields 83 (same-equal kind (83 ∷ []) c) (i .some) j))
+          (pick-fits-so (same kind (75 ∷ [])) (constant n w) shapeless (λ c. (h .name, i, l, h .fields 75 (same-equal kind (75 ∷ []) c) (i .some) j)) tt)
+
+  named-fits : (kind n : Bytes) → pieceAt 10 text (fieldAt text k 1) ≡ n → Sized kind n 1 → Fits text k (named kind n)
+  unfolding named moded
+  named-fits kind n h g =
+      pick-fits (same kind (77 ∷ [])) _ _ (pick-fits (same n (bytes "terminal")) (mode Terminal) _ tt (pick-fits (same n (bytes "strong")) (mode Strong) shapeless tt tt))
+      (pick-fits (same kind (86 ∷ [])) _ _ (pick-fits (isName n) (vertex n) shapeless h tt) (sized-fits kind n 1 g))
 
   edged-fits : (kind f t m a c : Bytes) → (same kind (69 ∷ []) ≡ true → (b : Bool) → same m (cond b 116 45 ∷ []) ≡ true → Fits text k (edge f t b a c)) → Fits text k (edged kind f t m a c)
   unfolding edged marked
@@ -137,6 +175,49 @@ module _ (text : Bytes) (k : ℕ) where
       record {
         bytes = field-in text k (fieldStart line j) ∙ e;
         long = sym (length-take-le (upTo 9 (drop (fieldStart line j) line)) (drop (fieldStart line j) line) (up-to-inside 9 (drop (fieldStart line j) line))) ∙ ap length e;
+      }
+
+  -- the name of a line of two fields, and of three
+  first-start : (c : ℕ) (x y : Bytes) (ls : List Bytes) → split 9 line ≡ x ∷ y ∷ ls → x ≡ c ∷ [] → fieldStart line 1 ≡ 2
+  unfolding fieldStart
+  first-start c x y ls e h = omega (arith, one-long line 0 (two-left 9 line 0 x y ls e .0 ∙ h))
+
+  two-fit : (kind n : Bytes) → split 9 line ≡ kind ∷ n ∷ [] → Sized kind n 1
+  two-fit kind n e =
+      let t = field-left line 0 kind n [] (rw (field-zero line) e) in
+      let o = one-left 9 line (fieldStart line 1) n (t .2) in
+      let f = formula-fits 1 n (piece-last 9 line (fieldStart line 1) _ refl (o .1) ∙ o .0) in
+      record {
+        name = f;
+        most = omega arith;
+        fields = λ c h i j.
+            record {
+              field = [];
+              are = two-pieces 9 line e ∙ rw (h, append-nil n);
+              width = absent;
+              is-name = j;
+              start = first-start c kind n [] e h;
+              long = f .long;
+            };
+      }
+
+  three-fit : (kind n w : Bytes) → split 9 line ≡ kind ∷ n ∷ w ∷ [] → Sized kind n (widthOf w)
+  three-fit kind n w e =
+      let t = field-left line 0 kind n (w ∷ []) (rw (field-zero line) e) in
+      let f = formula-fits 1 n (field-left line 1 n w [] (t .2) .0) in
+      record {
+        name = f;
+        most = width-most w;
+        fields = λ c h i j.
+            let d = width-is w (widthOf w) refl i in
+            record {
+              field = 9 ∷ w;
+              are = three-pieces 9 line e ∙ rw h;
+              width = subst (λ (x : Bytes). WidthField (9 ∷ x) (widthOf w)) (sym (d .0)) (given (widthOf w) (record { some = i; most = d .1 }));
+              is-name = j;
+              start = first-start c kind n (w ∷ []) e h;
+              long = f .long;
+            };
       }
 
   -- a byte of the line stands in the text
@@ -177,8 +258,8 @@ module _ (text : Bytes) (k : ℕ) where
   unfolding ofFields
   fields-fit [] e = tt
   fields-fit (x ∷ []) e = tt
-  fields-fit (x ∷ n ∷ []) e = named-fits x n (name-fits x n e)
-  fields-fit (x ∷ f ∷ t ∷ []) e = tt
+  fields-fit (x ∷ n ∷ []) e = named-fits x n (name-fits x n e) (two-fit x n e)
+  fields-fit (x ∷ n ∷ w ∷ []) e = sized-fits x n (widthOf w) (three-fit x n w e)
   fields-fit (x ∷ f ∷ t ∷ m ∷ []) e = tt
   fields-fit (x ∷ f ∷ t ∷ m ∷ a ∷ []) e = tt
   fields-fit (x ∷ f ∷ t ∷ m ∷ a ∷ c ∷ []) e = edged-fits x f t m a c (edge-fits x f t m a c e)

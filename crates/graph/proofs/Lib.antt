@@ -3,20 +3,30 @@ pub mod PieceLaws
 pub mod SplitLaws
 pub mod BreakLaws
 pub mod NameLaws
+pub mod WidthFieldLaws
 pub mod RecordLaws
 pub mod WordLaws
 pub mod EdgeLaws
 pub mod FieldLaws
 pub mod EdgeLineLaws
+pub mod BitLaws
+pub mod MeaningLaws
+pub mod DifferLaws
 pub mod ArrayLaws
 pub mod ModeLineLaws
 pub mod ModeLaws
 pub mod LineLaws
+pub mod SymbolLaws
 pub mod HeldLaws
 pub mod TextLaws
 pub mod ModeTextLaws
+pub mod WidthTextLaws
+pub mod SymbolTextLaws
+pub mod FormulaTextLaws
 pub mod UnseenLaws
 pub mod MarkLaws
 pub mod AnswerLaws
+pub mod WidthAnswerLaws
 pub mod ChosenLaws
 mod Examples
+mod WideExamples

@@ -10,13 +10,14 @@ use Rattle.assertion.specs.declared.Mode.{Mode}
 use Rattle.graph.specs.Pieces.{endAt, pieceAt}
 use Rattle.graph.specs.Records.{recordOf}
 use Rattle.graph.specs.Reading.{add, addMode, addSignal, addConstant, addVertex, addEdge}
-use Rattle.graph.specs.Held.{lineStart, lineOf, fieldAt}
-use Rattle.graph.specs.Private.Steps.{viewed, FieldOf, Placed, EdgeAt, faultyOf, addedOf}
+use Rattle.graph.specs.Held.{lineStart, lineOf, fieldStart, fieldAt, fieldLength}
+use Rattle.graph.specs.Private.Steps.{viewed, FieldOf, NameOf, Placed, EdgeAt, faultyOf, addedOf}
 use Rattle.graph.specs.declared.Fault.the-variants.{WrongShape}
 use Rattle.graph.specs.declared.CheckedGraph.{CheckedGraph}
 use Rattle.graph.specs.declared.Shape.{Shape}
 use Rattle.graph.specs.declared.Shape.the-variants.{Wrong, Moded, Signal, Constant, Vertex, Edge}
-use Rattle.graph.proofs.PieceLaws.{piece-take, piece-in}
+use Rattle.graph.proofs.PieceLaws.{piece-take, piece-in, part-in}
+use Rattle.graph.proofs.EdgeLaws.{take-self, up-to-inside}
 
 pub part-length : (text : Bytes) (at end : ℕ) → at ≤ end → end ≤ length text → length (take (end - at) (drop at text)) ≡ end - at
 part-length text at end h l = length-take-le (end - at) (drop at text) (omega (arith, length-drop at text))
@@ -35,10 +36,19 @@ module _ (text : Bytes) (graph : Graph) (n at end : ℕ) (ha : at ≡ lineStart 
   is-placed : {x : Shape} → shape ≡ x → Placed line x
   is-placed e = subst (Placed line) e (hs .1)
 
-  -- a name: its place, and its bytes
+  -- a name: its place, its length, and its bytes
   pub name-at : (p : ℕ) → FieldOf line 1 p → at + p ≡ fieldAt text n 1
   unfolding fieldAt
   name-at p f = rw (is-line, ← ha, ← f .1)
+
+  pub name-long : (p j : ℕ) → NameOf line p j → j ≡ fieldLength (lineOf text n) 1
+  name-long p j f = f .1 ∙ ap (λ (l : Bytes). fieldLength l 1) (sym is-line)
+
+  part-is : (p j : ℕ) → NameOf line p j → take j (drop (at + p) text) ≡ take j (drop p line)
+  unfolding fieldLength
+  part-is p j f =
+      let few : j ≤ length line - p = omega (arith, f .1, f .0 .1, up-to-inside 9 (drop (fieldStart line 1) line), length-drop (fieldStart line 1) line) in
+      part-in text line at p j (take-self (end - at) (drop at text)) few
 
   name-is : (p : ℕ) → FieldOf line 1 p → pieceAt 10 text (at + p) ≡ drop p line
   name-is p f =
@@ -54,13 +64,14 @@ module _ (text : Bytes) (graph : Graph) (n at end : ℕ) (ha : at ≡ lineStart 
   unfolding add viewed
   line-mode m e = sym (ap (add graph) (is-record e))
 
-  pub line-signal : (p : ℕ) → shape ≡ Signal p → addSignal graph (pieceAt 10 text (at + p)) ≡ add graph (recordOf (lineOf text n))
-  unfolding add viewed
-  line-signal p e = ap (addSignal graph) (name-is p (is-placed e)) ∙ sym (ap (add graph) (is-record e))
+  module _ (p j w : ℕ) where
+    pub line-signal : shape ≡ Signal p j w → addSignal graph (take j (drop (at + p) text)) w ≡ add graph (recordOf (lineOf text n))
+    unfolding add viewed
+    line-signal e = ap (λ (x : Bytes). addSignal graph x w) (part-is p j (is-placed e .0)) ∙ sym (ap (add graph) (is-record e))
 
-  pub line-constant : (p : ℕ) → shape ≡ Constant p → addConstant graph (pieceAt 10 text (at + p)) ≡ add graph (recordOf (lineOf text n))
-  unfolding add viewed
-  line-constant p e = ap (addConstant graph) (name-is p (is-placed e)) ∙ sym (ap (add graph) (is-record e))
+    pub line-constant : shape ≡ Constant p j w → addConstant graph (take j (drop (at + p) text)) w ≡ add graph (recordOf (lineOf text n))
+    unfolding add viewed
+    line-constant e = ap (λ (x : Bytes). addConstant graph x w) (part-is p j (is-placed e .0)) ∙ sym (ap (add graph) (is-record e))
 
   pub line-vertex : (p : ℕ) → shape ≡ Vertex p → addVertex graph (pieceAt 10 text (at + p)) ≡ add graph (recordOf (lineOf text n))
   unfolding add viewed

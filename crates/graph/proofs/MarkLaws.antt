@@ -8,8 +8,8 @@ use borrow.Author.Tests.{eqb-true}
 use lib.Dec.{eqb, ltb, leb}
 use lib.ListN.{length, length-append}
 use Rattle.formula.specs.Classes.{pick, isName}
-use Rattle.assertion.specs.Graph.{Bytes, Edge, Graph}
-use Rattle.graph.specs.Pieces.{onto, split, same, lookUp}
+use Rattle.assertion.specs.Graph.{Bytes, Edge, Graph, signalBits, constantBits}
+use Rattle.graph.specs.Pieces.{onto, split, same, lookUp, lookUpName}
 use Rattle.graph.specs.Records.{Record, shapeless, mode, signal, constant, vertex, edge, marked, edged, ofFields, recordOf}
 use Rattle.graph.specs.Reading.{Step, fault, went, modeLines, addMode, addSignal, addConstant, addVertex, edgeOf, namesOf, judgedFormula, lower, unlessFaulty, judgeEdge, addEdge, add, Outcome, refused, accepted, finished, readLines, nothing, graphOf}
 use Rattle.graph.specs.Claims.{IsField}
@@ -57,21 +57,21 @@ module _ (g h : Graph) (s : Alike g h) where
       (rw (s .mode-is, s .signals-are, s .constants-are, s .vertices-are, s .as-many)) (both-stop WrongOrder)
       (both-go (plusMode g m) (plusMode h m) (record { mode-is = refl; signals-are = s .signals-are; constants-are = s .constants-are; vertices-are = s .vertices-are; as-many = s .as-many }))
 
-  signal-alike : (n : Bytes) → Steps (addSignal g n) (addSignal h n)
-  unfolding addSignal
-  signal-alike n =
+  signal-alike : (n : Bytes) (w : ℕ) → Steps (addSignal g n w) (addSignal h n w)
+  unfolding addSignal signalBits
+  signal-alike n w =
       pick-alike (ltb 0 (length (g .constants) + length (g .vertices) + length (g .edges))) (ltb 0 (length (h .constants) + length (h .vertices) + length (h .edges))) (rw (s .constants-are, s .vertices-are, s .as-many)) (both-stop WrongOrder)
-      (pick-alike (leb 63 (length (g .signals))) (leb 63 (length (h .signals))) (rw (s .signals-are)) (both-stop TooMany)
-      (pick-alike (lookUp n (namesOf g) .known) (lookUp n (namesOf h) .known) (rw (s .signals-are, s .constants-are)) (both-stop NameRepeated)
-      (both-go (plusSignal g n) (plusSignal h n) (record { mode-is = s .mode-is; signals-are = rw (s .signals-are); constants-are = s .constants-are; vertices-are = s .vertices-are; as-many = s .as-many }))))
+      (pick-alike (ltb 63 (signalBits g + w)) (ltb 63 (signalBits h + w)) (rw (s .signals-are)) (both-stop TooMany)
+      (pick-alike (lookUpName n (namesOf g) .known) (lookUpName n (namesOf h) .known) (rw (s .signals-are, s .constants-are)) (both-stop NameRepeated)
+      (both-go (plusSignal g n w) (plusSignal h n w) (record { mode-is = s .mode-is; signals-are = rw (s .signals-are); constants-are = s .constants-are; vertices-are = s .vertices-are; as-many = s .as-many }))))
 
-  constant-alike : (n : Bytes) → Steps (addConstant g n) (addConstant h n)
-  unfolding addConstant
-  constant-alike n =
+  constant-alike : (n : Bytes) (w : ℕ) → Steps (addConstant g n w) (addConstant h n w)
+  unfolding addConstant constantBits
+  constant-alike n w =
       pick-alike (ltb 0 (length (g .vertices) + length (g .edges))) (ltb 0 (length (h .vertices) + length (h .edges))) (rw (s .vertices-are, s .as-many)) (both-stop WrongOrder)
-      (pick-alike (leb 6 (length (g .constants))) (leb 6 (length (h .constants))) (rw (s .constants-are)) (both-stop TooMany)
-      (pick-alike (lookUp n (namesOf g) .known) (lookUp n (namesOf h) .known) (rw (s .signals-are, s .constants-are)) (both-stop NameRepeated)
-      (both-go (plusConstant g n) (plusConstant h n) (record { mode-is = s .mode-is; signals-are = s .signals-are; constants-are = rw (s .constants-are); vertices-are = s .vertices-are; as-many = s .as-many }))))
+      (pick-alike (ltb 6 (constantBits g + w)) (ltb 6 (constantBits h + w)) (rw (s .constants-are)) (both-stop TooMany)
+      (pick-alike (lookUpName n (namesOf g) .known) (lookUpName n (namesOf h) .known) (rw (s .signals-are, s .constants-are)) (both-stop NameRepeated)
+      (both-go (plusConstant g n w) (plusConstant h n w) (record { mode-is = s .mode-is; signals-are = s .signals-are; constants-are = rw (s .constants-are); vertices-are = s .vertices-are; as-many = s .as-many }))))
 
   vertex-alike : (n : Bytes) → Steps (addVertex g n) (addVertex h n)
   unfolding addVertex
@@ -105,8 +105,8 @@ module _ (g h : Graph) (s : Alike g h) where
   unfolding add
   record-alike shapeless = both-stop WrongShape
   record-alike (mode m) = mode-alike m
-  record-alike (signal n) = signal-alike n
-  record-alike (constant n) = constant-alike n
+  record-alike (signal n w) = signal-alike n w
+  record-alike (constant n w) = constant-alike n w
   record-alike (vertex n) = vertex-alike n
   record-alike (edge f t b x y) = edge-alike f t b b x y
 
@@ -157,7 +157,7 @@ pick-records : (a : Bool) {x y : Record} → Records x y → Records (pick a x s
 pick-records true h = h
 pick-records false h = no-shape
 
-abbrev mark : Bool → ℕ
+abbrev pub mark : Bool → ℕ
 mark b = cond b 116 45
 
 marks-alike : (f t : Bytes) (b c : Bool) (x y : Bytes) → Records (marked f t (mark b ∷ []) x y) (marked f t (mark c ∷ []) x y)
@@ -175,7 +175,7 @@ fields-alike f t b c (x ∷ y ∷ []) = pick-records (isName f) (pick-records (i
 fields-alike f t b c (x ∷ y ∷ z ∷ zs) = no-shape
 
 -- a line of an edge, but for what follows its mark
-abbrev lineWith : Bytes → Bytes → Bool → Bytes → Bytes
+abbrev pub lineWith : Bytes → Bytes → Bool → Bytes → Bytes
 lineWith f t b p = 69 ∷ 9 ∷ (f ++ (9 ∷ (t ++ (9 ∷ mark b ∷ 9 ∷ p))))
 
 mark-fields : (b : Bool) (p : Bytes) → split 9 (mark b ∷ 9 ∷ p) ≡ (mark b ∷ []) ∷ split 9 p
@@ -187,7 +187,7 @@ kind-fields : (x : Bytes) → split 9 (69 ∷ 9 ∷ x) ≡ (69 ∷ []) ∷ split
 unfolding split onto
 kind-fields x = refl
 
-line-fields : (f t : Bytes) (b : Bool) (p : Bytes) → IsField f → IsField t → recordOf (lineWith f t b p) ≡ ofFields ((69 ∷ []) ∷ f ∷ t ∷ (mark b ∷ []) ∷ split 9 p)
+pub line-fields : (f t : Bytes) (b : Bool) (p : Bytes) → IsField f → IsField t → recordOf (lineWith f t b p) ≡ ofFields ((69 ∷ []) ∷ f ∷ t ∷ (mark b ∷ []) ∷ split 9 p)
 unfolding recordOf
 line-fields f t b p hf ht =
     ap ofFields
@@ -202,7 +202,7 @@ line-alike f t b c p hf ht = rw (line-fields f t b p hf ht, line-fields f t c p 
 
 -- ---- its lines
 -- a text without LF before another: the first line is longer
-split-more : (x y : Bytes) {p : Bytes} {ps : List Bytes} → ((left right : Bytes) → x ≡ left ++ (10 ∷ right) → ⊥) → split 10 y ≡ p ∷ ps → split 10 (x ++ y) ≡ (x ++ p) ∷ ps
+pub split-more : (x y : Bytes) {p : Bytes} {ps : List Bytes} → ((left right : Bytes) → x ≡ left ++ (10 ∷ right) → ⊥) → split 10 y ≡ p ∷ ps → split 10 (x ++ y) ≡ (x ++ p) ∷ ps
 unfolding split onto
 split-more [] y h e = e
 split-more (c ∷ x) y {p} {ps} h e = by (eqb c 10) refl (split-more x y (λ l r q. h (c ∷ l) r (ap (_∷_ c) q)) e)
@@ -216,11 +216,11 @@ unfolding split onto
 mark-lines true rest e = rw e
 mark-lines false rest e = rw e
 
-one-byte-lines : (c : ℕ) (y : Bytes) {p : Bytes} {ps : List Bytes} → eqb c 10 ≡ false → split 10 y ≡ p ∷ ps → split 10 (c ∷ y) ≡ (c ∷ p) ∷ ps
+pub one-byte-lines : (c : ℕ) (y : Bytes) {p : Bytes} {ps : List Bytes} → eqb c 10 ≡ false → split 10 y ≡ p ∷ ps → split 10 (c ∷ y) ≡ (c ∷ p) ∷ ps
 unfolding split onto
 one-byte-lines c y q e = rw (split, q, e)
 
-edge-lines : (f t : Bytes) (b : Bool) (rest : Bytes) {p : Bytes} {ps : List Bytes} → IsField f → IsField t → split 10 rest ≡ p ∷ ps → split 10 (lineWith f t b rest) ≡ lineWith f t b p ∷ ps
+pub edge-lines : (f t : Bytes) (b : Bool) (rest : Bytes) {p : Bytes} {ps : List Bytes} → IsField f → IsField t → split 10 rest ≡ p ∷ ps → split 10 (lineWith f t b rest) ≡ lineWith f t b p ∷ ps
 edge-lines f t b rest hf ht e =
     one-byte-lines 69 _ refl
     (one-byte-lines 9 _ refl
@@ -274,7 +274,7 @@ module _ {before from to : Bytes} (rest : Bytes) (starts : StartsLine before) (h
           rw (short-lines (text-of b) (omega (arith, as-long b c, short)), short-lines (text-of c) short, lines-are b e, lines-are c e)
           (after-alike nothing 1 (lines-of before starts .ls) (some _ _) (some _ _) (λ h i. last-alike h i b c p ps))
 
-marked-by : {m : ℕ} → IsMark m → (b : Bool) × (m ≡ mark b)
+pub marked-by : {m : ℕ} → IsMark m → (b : Bool) × (m ≡ mark b)
 marked-by (t-mark e) = (true, e)
 marked-by (dash e) = (false, e)
 

@@ -5,13 +5,14 @@ use mathlib.Core.Path.{_≡_, refl, subst, _∙_}
 use mathlib.Core.Bool.{Bool, true, false}
 use mathlib.Core.List.{List, [], _∷_}
 use native.Mathlib.Omega.{arith}
+use lib.Dec.{eqb}
 use Rattle.text.specs.Quoted.{bytes}
 use Rattle.formula.specs.Classes.{pick, isName}
 use Rattle.assertion.specs.Graph.{Bytes}
 use Rattle.assertion.specs.declared.Mode.{Mode}
 use Rattle.assertion.specs.declared.Mode.the-variants.{Terminal, Strong}
 use Rattle.graph.specs.Pieces.{onto, split, same}
-use Rattle.graph.specs.Records.{Record, shapeless, mode, signal, constant, vertex, edge, moded, named, marked, edged, ofFields, recordOf}
+use Rattle.graph.specs.Records.{Record, shapeless, mode, signal, constant, vertex, edge, moded, widthOf, sized, named, marked, edged, ofFields, recordOf}
 use Rattle.graph.specs.Reading.{modeLines}
 use Rattle.graph.specs.ModeClaims.{ModeWord}
 use Rattle.graph.specs.ModeClaims.ModeWord.{terminal, strong}
@@ -22,8 +23,8 @@ use Rattle.graph.proofs.SplitLaws.{two-pieces, one-piece, same-equal}
 From : List Bytes → Record → Type 0
 From fs shapeless = Unit {0}
 From fs (mode m) = (word : Bytes) × (fs ≡ (77 ∷ []) ∷ word ∷ []) × ModeWord word m
-From fs (signal n) = Unit {0}
-From fs (constant n) = Unit {0}
+From fs (signal n w) = Unit {0}
+From fs (constant n w) = Unit {0}
 From fs (vertex n) = Unit {0}
 From fs (edge f t m a c) = Unit {0}
 
@@ -39,12 +40,18 @@ word-from k n e =
     (pick-from (k ∷ n ∷ []) (same n (bytes "strong")) (mode Strong) shapeless
     (λ s. let w = same-equal n (bytes "strong") s in (n, rw e, rw w strong)) tt)
 
+sized-from : (fs : List Bytes) (k n : Bytes) (w : ℕ) → From fs (sized k n w)
+unfolding From sized
+sized-from fs k n w =
+    pick-from fs (isName n) _ shapeless
+    (λ s. pick-from fs (eqb w 0) shapeless _ (λ u. tt)
+    (pick-from fs (same k (83 ∷ [])) (signal n w) _ (λ u. tt) (pick-from fs (same k (75 ∷ [])) (constant n w) shapeless (λ u. tt) tt))) tt
+
 named-from : (k n : Bytes) → From (k ∷ n ∷ []) (named k n)
 unfolding From named
 named-from k n =
     pick-from fs (same k (77 ∷ [])) (moded n) _ (λ s. word-from k n (same-equal k (77 ∷ []) s))
-    (pick-from fs (isName n) _ shapeless
-    (λ s. pick-from fs (same k (83 ∷ [])) (signal n) _ (λ u. tt) (pick-from fs (same k (75 ∷ [])) (constant n) _ (λ u. tt) (pick-from fs (same k (86 ∷ [])) (vertex n) shapeless (λ u. tt) tt))) tt)
+    (pick-from fs (same k (86 ∷ [])) _ (sized k n 1) (λ s. pick-from fs (isName n) (vertex n) shapeless (λ u. tt) tt) (sized-from fs k n 1))
   where
     fs : List Bytes
     fs = k ∷ n ∷ []
@@ -62,7 +69,7 @@ unfolding From ofFields
 fields-from [] = tt
 fields-from (k ∷ []) = tt
 fields-from (k ∷ n ∷ []) = named-from k n
-fields-from (k ∷ f ∷ t ∷ []) = tt
+fields-from (k ∷ n ∷ w ∷ []) = sized-from _ k n (widthOf w)
 fields-from (k ∷ f ∷ t ∷ m ∷ []) = tt
 fields-from (k ∷ f ∷ t ∷ m ∷ a ∷ []) = tt
 fields-from (k ∷ f ∷ t ∷ m ∷ a ∷ c ∷ []) = edged-from _ k f t m a c
@@ -103,11 +110,17 @@ not-word word h = by (same word (bytes "terminal")) (same word (bytes "strong"))
     by false true p q = absurd (h Strong (rw (same-equal word (bytes "strong") q) strong))
     by false false p q = rw (moded, p, q)
 
+-- two fields more: an `M` line has no width
+no-size : (a b : Bool) → pick a (pick b shapeless shapeless) shapeless ≡ shapeless
+no-size true true = refl
+no-size true false = refl
+no-size false b = refl
+
 not-fields : (word : Bytes) (fs : List Bytes) → split 9 word ≡ fs → ((m : Mode) → ModeWord word m → ⊥) → ofFields ((77 ∷ []) ∷ fs) ≡ shapeless
-unfolding ofFields named edged same
+unfolding ofFields named sized edged same
 not-fields word [] e h = refl
 not-fields word (x ∷ []) e h = rw (← one-piece 9 word e) (not-word word h)
-not-fields word (x ∷ a ∷ []) e h = refl
+not-fields word (x ∷ a ∷ []) e h = no-size (isName x) (eqb (widthOf a) 0)
 not-fields word (x ∷ a ∷ b ∷ []) e h = refl
 not-fields word (x ∷ a ∷ b ∷ c ∷ []) e h = refl
 not-fields word (x ∷ a ∷ b ∷ c ∷ d ∷ []) e h = refl

@@ -11,12 +11,12 @@ use lib.Dec.{ltb, leb}
 use lib.ListN.{length, getD, drop, length-append}
 use Rattle.text.specs.Quoted.{bytes}
 use Rattle.formula.specs.Classes.{pick}
-use Rattle.assertion.specs.Graph.{Bytes, Edge, Graph}
+use Rattle.assertion.specs.Graph.{Bytes, Edge, Graph, signalBits, constantBits}
 use Rattle.assertion.specs.declared.Mode.{Mode}
 use Rattle.assertion.specs.declared.Mode.the-variants.{Unsaid}
-use Rattle.graph.specs.Pieces.{onto, split, lookUp}
+use Rattle.graph.specs.Pieces.{onto, split, lookUp, lookUpName}
 use Rattle.graph.specs.Records.{Record, shapeless, mode, signal, constant, vertex, edge, ofFields, recordOf}
-use Rattle.graph.specs.Reading.{Step, fault, went, modeLines, addMode, addSignal, addConstant, addVertex, edgeOf, unlessFaulty, judgeEdge, addEdge, add, namesOf, judgedFormula, lower, refused, accepted, finished, readLines, nothing, faultNumber, refusalOf, graphOf}
+use Rattle.graph.specs.Reading.{Step, fault, went, modeLines, addMode, sizedName, addSignal, addConstant, addVertex, edgeOf, unlessFaulty, judgeEdge, addEdge, add, namesOf, judgedFormula, lower, refused, accepted, finished, readLines, nothing, faultNumber, refusalOf, graphOf}
 use Rattle.graph.specs.Claims.{breaks}
 use Rattle.text.specs.Lines.{StartsLine}
 use Rattle.graph.specs.ModeClaims.{ModeWord, ModeLine, FirstLine, RefusedAfter}
@@ -85,13 +85,13 @@ module _ {P : Graph → Type 0} where
   tested a b c f1 f2 f3 g h = pick-leads a (stopped f1) (pick-leads b (stopped f2) (pick-leads c (stopped f3) (led g h)))
 
   module _ (g : Graph) where
-    signal-leads : (n : Bytes) → P (plusSignal g n) → Leads P (addSignal g n)
+    signal-leads : (n : Bytes) (w : ℕ) → P (plusSignal g n w) → Leads P (addSignal g n w)
     unfolding addSignal
-    signal-leads n h = tested (ltb 0 (length (g .constants) + length (g .vertices) + length (g .edges))) (leb 63 (length (g .signals))) (lookUp n (namesOf g) .known) WrongOrder TooMany NameRepeated (plusSignal g n) h
+    signal-leads n w h = tested (ltb 0 (length (g .constants) + length (g .vertices) + length (g .edges))) (ltb 63 (signalBits g + w)) (lookUpName n (namesOf g) .known) WrongOrder TooMany NameRepeated (plusSignal g n w) h
 
-    constant-leads : (n : Bytes) → P (plusConstant g n) → Leads P (addConstant g n)
+    constant-leads : (n : Bytes) (w : ℕ) → P (plusConstant g n w) → Leads P (addConstant g n w)
     unfolding addConstant
-    constant-leads n h = tested (ltb 0 (length (g .vertices) + length (g .edges))) (leb 6 (length (g .constants))) (lookUp n (namesOf g) .known) WrongOrder TooMany NameRepeated (plusConstant g n) h
+    constant-leads n w h = tested (ltb 0 (length (g .vertices) + length (g .edges))) (ltb 6 (constantBits g + w)) (lookUpName n (namesOf g) .known) WrongOrder TooMany NameRepeated (plusConstant g n w) h
 
     vertex-leads : (n : Bytes) → P (plusVertex g n) → Leads P (addVertex g n)
     unfolding addVertex
@@ -116,12 +116,12 @@ module _ {P : Graph → Type 0} where
     mode-leads m h =
         pick-leads (ltb 0 (modeLines (g .mode) + length (g .signals) + length (g .constants) + length (g .vertices) + length (g .edges))) (stopped WrongOrder) (led (plusMode g m) h)
 
-    record-leads : (r : Record) → ((m : Mode) → r ≡ mode m → Leads P (addMode g m)) → ((n : Bytes) → P (plusSignal g n)) → ((n : Bytes) → P (plusConstant g n)) → ((n : Bytes) → P (plusVertex g n)) → ((e : Edge) → P (plusEdge g e)) → Leads P (add g r)
+    record-leads : (r : Record) → ((m : Mode) → r ≡ mode m → Leads P (addMode g m)) → ((n : Bytes) (w : ℕ) → P (plusSignal g n w)) → ((n : Bytes) (w : ℕ) → P (plusConstant g n w)) → ((n : Bytes) → P (plusVertex g n)) → ((e : Edge) → P (plusEdge g e)) → Leads P (add g r)
     unfolding add
     record-leads shapeless h s c v e = stopped WrongShape
     record-leads (mode m) h s c v e = h m refl
-    record-leads (signal n) h s c v e = signal-leads n (s n)
-    record-leads (constant n) h s c v e = constant-leads n (c n)
+    record-leads (signal n w) h s c v e = signal-leads n w (s n w)
+    record-leads (constant n w) h s c v e = constant-leads n w (c n w)
     record-leads (vertex n) h s c v e = vertex-leads n (v n)
     record-leads (edge f t m a b) h s c v e = edge-leads f t m a b e
 
@@ -132,8 +132,8 @@ line-counts g l {more} e =
     (subst (Leads (λ x. 1 ≤ recordsOf x)) e
     (record-leads g (recordOf l)
     (λ m k. mode-leads g m (let z = mode-said l k in omega arith))
-    (λ n. omega (arith, length-append (g .signals) (n ∷ [])))
-    (λ n. omega (arith, length-append (g .constants) (n ∷ [])))
+    (λ n w. omega (arith, length-append (g .signals) (sizedName n w ∷ [])))
+    (λ n w. omega (arith, length-append (g .constants) (sizedName n w ∷ [])))
     (λ n. omega (arith, length-append (g .vertices) (n ∷ [])))
     (λ x. omega (arith, length-append (g .edges) (x ∷ [])))))
 
@@ -148,35 +148,30 @@ mode-refused g m h =
 -- a line that is no mode, or comes after a line, keeps the mode
 pub line-keeps : (g : Graph) (l : Bytes) {more : Graph} → ((m : Mode) → recordOf l ≡ mode m → 1 ≤ recordsOf g) → add g (recordOf l) ≡ went more → more .mode ≡ g .mode
 line-keeps g l {more} h e =
-    leads-to {P = λ x. x .mode ≡ g .mode} (subst (Leads (λ x. x .mode ≡ g .mode)) e (record-leads g (recordOf l) (λ m k. subst (Leads (λ x. x .mode ≡ g .mode)) (sym (mode-refused g m (h m k))) (stopped WrongOrder)) (λ n. refl) (λ n. refl) (λ n. refl) (λ x. refl)))
+    leads-to {P = λ x. x .mode ≡ g .mode} (subst (Leads (λ x. x .mode ≡ g .mode)) e (record-leads g (recordOf l) (λ m k. subst (Leads (λ x. x .mode ≡ g .mode)) (sym (mode-refused g m (h m k))) (stopped WrongOrder)) (λ n w. refl) (λ n w. refl) (λ n. refl) (λ x. refl)))
 
 -- ---- the lines read one after the other
--- lines before others: they are refused by themselves, or the others are read after them
-pub data Prefix (g : Graph) (n : ℕ) (ls rest : List Bytes) : Type 0 where
-  stops : (f : Fault) (m : ℕ) → m < n + length ls → readLines g n (ls ++ ([] ∷ [])) ≡ refused (FaultyLine f m) → readLines g n (ls ++ rest) ≡ refused (FaultyLine f m) → Prefix g n ls rest
-  goes : (more : Graph) → readLines g n (ls ++ rest) ≡ readLines more (n + length ls) rest → (1 ≤ recordsOf g + length ls → 1 ≤ recordsOf more) → Prefix g n ls rest
+-- lines before others, whichever follow: one of them is refused, or the others are read after them
+pub data Prefix (g : Graph) (n : ℕ) (ls : List Bytes) : Type 0 where
+  stops : (f : Fault) (m : ℕ) → m < n + length ls → ((rest : List Bytes) → (rest ≡ [] → ⊥) → readLines g n (ls ++ rest) ≡ refused (FaultyLine f m)) → Prefix g n ls
+  goes : (more : Graph) → ((rest : List Bytes) → (rest ≡ [] → ⊥) → readLines g n (ls ++ rest) ≡ readLines more (n + length ls) rest) → (1 ≤ recordsOf g + length ls → 1 ≤ recordsOf more) → Prefix g n ls
 
 pub joined-some : (ls rest : List Bytes) → (rest ≡ [] → ⊥) → (ls ++ rest ≡ [] → ⊥)
 joined-some [] rest h e = h e
 joined-some (l ∷ ls) rest h e = let z : _≡_ {A = ℕ} 0 1 = cc in omega arith
 
-pub prefix : (g : Graph) (n : ℕ) (ls rest : List Bytes) → (rest ≡ [] → ⊥) → Prefix g n ls rest
-prefix g n [] rest h = goes g (rw (add-zero n)) (λ k. omega arith)
-prefix g n (l ∷ ls) rest h = by (add g (recordOf l)) refl (λ more. prefix more (n + 1) ls rest h)
+pub prefix : (g : Graph) (n : ℕ) (ls : List Bytes) → Prefix g n ls
+prefix g n [] = goes g (λ rest h. rw (add-zero n)) (λ k. omega arith)
+prefix g n (l ∷ ls) = by (add g (recordOf l)) refl (λ more. prefix more (n + 1) ls)
   where
-    none : _≡_ {A = List Bytes} ([] ∷ []) [] → ⊥
-    none e = let z : _≡_ {A = ℕ} 0 1 = cc in omega arith
-
-    next-of : (more : Graph) → add g (recordOf l) ≡ went more → Prefix more (n + 1) ls rest → Prefix g n (l ∷ ls) rest
-    next-of more e (stops f m s a b) =
-        stops f m (omega (arith, s)) (read-next g n l (ls ++ ([] ∷ [])) (joined-some ls ([] ∷ []) none) e ∙ a) (read-next g n l (ls ++ rest) (joined-some ls rest h) e ∙ b)
+    next-of : (more : Graph) → add g (recordOf l) ≡ went more → Prefix more (n + 1) ls → Prefix g n (l ∷ ls)
+    next-of more e (stops f m s a) = stops f m (omega (arith, s)) (λ rest h. read-next g n l (ls ++ rest) (joined-some ls rest h) e ∙ a rest h)
     next-of more e (goes last a c) =
         let z : n + 1 + length ls ≡ n + suc (length ls) = omega arith in
-        goes last (read-next g n l (ls ++ rest) (joined-some ls rest h) e ∙ a ∙ ap (λ (k : ℕ). readLines last k rest) z) (λ k. let s = line-counts g l e in c (omega arith))
+        goes last (λ rest h. read-next g n l (ls ++ rest) (joined-some ls rest h) e ∙ a rest h ∙ ap (λ (k : ℕ). readLines last k rest) z) (λ k. let s = line-counts g l e in c (omega arith))
 
-    by : (s : Step) → add g (recordOf l) ≡ s → ((more : Graph) → Prefix more (n + 1) ls rest) → Prefix g n (l ∷ ls) rest
-    by (fault f) e ih =
-        stops f n (omega arith) (read-some g n l (ls ++ ([] ∷ [])) (joined-some ls ([] ∷ []) none) e) (read-some g n l (ls ++ rest) (joined-some ls rest h) e)
+    by : (s : Step) → add g (recordOf l) ≡ s → ((more : Graph) → Prefix more (n + 1) ls) → Prefix g n (l ∷ ls)
+    by (fault f) e ih = stops f n (omega arith) (λ rest h. read-some g n l (ls ++ rest) (joined-some ls rest h) e)
     by (went more) e ih = next-of more e (ih more)
 
 ended-mode : (g : Graph) {last : Graph} → finished g ≡ accepted last → last .mode ≡ g .mode
@@ -199,7 +194,7 @@ pub short-lines : (text : Bytes) → length text ≤ 32768 → graphOf text ≡ 
 unfolding graphOf
 short-lines text h = rw (le-ltb 32768 (length text) h)
 
-accepted-lines : (text : Bytes) {last : Graph} → graphOf text ≡ accepted last → readLines nothing 1 (split 10 text) ≡ accepted last
+pub accepted-lines : (text : Bytes) {last : Graph} → graphOf text ≡ accepted last → readLines nothing 1 (split 10 text) ≡ accepted last
 unfolding graphOf
 accepted-lines text {last} e = by (ltb 32768 (length text)) e
   where
@@ -244,8 +239,8 @@ pub data Kind (l : Bytes) : Type 0 where
 kind-of : (l : Bytes) (r : Record) → recordOf l ≡ r → Kind l
 kind-of l shapeless e = shapeless-line e
 kind-of l (mode m) e = moding m e
-kind-of l (signal n) e = plain (λ m q. let z : _≡_ {A = ℕ} 0 1 = cc in omega arith) (λ q. let z : _≡_ {A = ℕ} 0 1 = cc in omega arith)
-kind-of l (constant n) e = plain (λ m q. let z : _≡_ {A = ℕ} 0 1 = cc in omega arith) (λ q. let z : _≡_ {A = ℕ} 0 1 = cc in omega arith)
+kind-of l (signal n w) e = plain (λ m q. let z : _≡_ {A = ℕ} 0 1 = cc in omega arith) (λ q. let z : _≡_ {A = ℕ} 0 1 = cc in omega arith)
+kind-of l (constant n w) e = plain (λ m q. let z : _≡_ {A = ℕ} 0 1 = cc in omega arith) (λ q. let z : _≡_ {A = ℕ} 0 1 = cc in omega arith)
 kind-of l (vertex n) e = plain (λ m q. let z : _≡_ {A = ℕ} 0 1 = cc in omega arith) (λ q. let z : _≡_ {A = ℕ} 0 1 = cc in omega arith)
 kind-of l (edge f t b a c) e = plain (λ m q. let z : _≡_ {A = ℕ} 0 1 = cc in omega arith) (λ q. let z : _≡_ {A = ℕ} 0 1 = cc in omega arith)
 
@@ -293,7 +288,7 @@ pub refused-outcome : (text : Bytes) {cause : Cause} → graphOf text ≡ refuse
 unfolding readOf answerOf
 refused-outcome text h e = rw (e, h)
 
-numbered : (f : Fault) {n m : ℕ} → n ≡ m → refusalOf (FaultyLine f n) ≡ record { number = faultNumber f; line = m }
+pub numbered : (f : Fault) {n m : ℕ} → n ≡ m → refusalOf (FaultyLine f n) ≡ record { number = faultNumber f; line = m }
 unfolding refusalOf
 numbered f e = rw e
 
@@ -305,17 +300,20 @@ module _ {text before : Bytes} (rest : Bytes) (starts : StartsLine before) (byte
   before-short : length before ≤ 32768
   before-short = omega (arith, ap length bytes-are, length-append before rest)
 
-  read : graphOf text ≡ readLines nothing 1 (its .ls ++ split 10 rest)
+  pub read : graphOf text ≡ readLines nothing 1 (its .ls ++ split 10 rest)
   read = short-lines text short ∙ ap (readLines nothing 1) (ap (split 10) bytes-are ∙ its .further rest)
 
-  rest-refused : (f : Fault) → ((more : Graph) (n : ℕ) → (1 ≤ length (its .ls) → 1 ≤ recordsOf more) → readLines more n (split 10 rest) ≡ refused (FaultyLine f n)) → {r : GraphRead} → r ≡ readOf text → RefusedAfter before (faultNumber f) r
-  rest-refused f h {r} e = by (prefix nothing 1 (its .ls) (split 10 rest) (split-some 10 rest))
+  pub rest-refused : (f : Fault) → ((more : Graph) (n : ℕ) → (1 ≤ length (its .ls) → 1 ≤ recordsOf more) → readLines more n (split 10 rest) ≡ refused (FaultyLine f n)) → {r : GraphRead} → r ≡ readOf text → RefusedAfter before (faultNumber f) r
+  rest-refused f h {r} e = by (prefix nothing 1 (its .ls))
     where
-      by : Prefix nothing 1 (its .ls) (split 10 rest) → RefusedAfter before (faultNumber f) r
-      by (stops k m s a b) = earlier k m (omega (arith, s, its .count)) (short-lines before before-short ∙ ap (readLines nothing 1) (its .alone) ∙ a) (refused-outcome text (read ∙ b) e)
+      none : _≡_ {A = List Bytes} ([] ∷ []) [] → ⊥
+      none q = let z : _≡_ {A = ℕ} 0 1 = cc in omega arith
+
+      by : Prefix nothing 1 (its .ls) → RefusedAfter before (faultNumber f) r
+      by (stops k m s a) = earlier k m (omega (arith, s, its .count)) (short-lines before before-short ∙ ap (readLines nothing 1) (its .alone) ∙ a ([] ∷ []) none) (refused-outcome text (read ∙ a (split 10 rest) (split-some 10 rest)) e)
       by (goes more a c) =
           let n : 1 + length (its .ls) ≡ breaks before + 1 = omega (arith, its .count) in
-          here (FaultyLine f (1 + length (its .ls))) (refused-outcome text (read ∙ a ∙ h more (1 + length (its .ls)) (λ k. c (omega arith))) e) (numbered f n)
+          here (FaultyLine f (1 + length (its .ls))) (refused-outcome text (read ∙ a (split 10 rest) (split-some 10 rest) ∙ h more (1 + length (its .ls)) (λ k. c (omega arith))) e) (numbered f n)
 
 pub mode-again : {text before word after : Bytes} {m : Mode} → ModeLine text before word after → ModeWord word m → (before ≡ [] → ⊥) → length text ≤ 32768 → {r : GraphRead} → r ≡ readOf text → RefusedAfter before 3 r
 unfolding add faultNumber

@@ -70,6 +70,10 @@ pub first-piece : (b : ℕ) (x : Bytes) {p q : Bytes} {ps : List Bytes} → spli
 unfolding joined
 first-piece b x {p} {q} {ps} e = (joined b (q ∷ ps), sym (split-join b x) ∙ ap (joined b) e)
 
+pub three-pieces : (b : ℕ) (x : Bytes) {p q s : Bytes} → split b x ≡ p ∷ q ∷ s ∷ [] → x ≡ p ++ (b ∷ (q ++ (b ∷ s)))
+unfolding joined
+three-pieces b x e = sym (split-join b x) ∙ ap (joined b) e
+
 pub six-pieces : (b : ℕ) (x : Bytes) {k f t m a c : Bytes} → split b x ≡ k ∷ f ∷ t ∷ m ∷ a ∷ c ∷ [] → x ≡ k ++ (b ∷ (f ++ (b ∷ (t ++ (b ∷ (m ++ (b ∷ (a ++ (b ∷ c)))))))))
 unfolding joined
 six-pieces b x e = sym (split-join b x) ∙ ap (joined b) e
@@ -100,6 +104,12 @@ same-equal (c ∷ x) (d ∷ y) h = by (eqb c d) refl h (same-equal x y)
     by : (t : Bool) → eqb c d ≡ t → elim t [ true ↦ same x y | false ↦ false ] ≡ true → (same x y ≡ true → x ≡ y) → c ∷ x ≡ d ∷ y
     by true e k ih = rw (eqb-true c d e, ih k)
     by false e k ih = let z : _≡_ {A = ℕ} 0 1 = cc in absurd (omega arith)
+
+-- and equal bytes are the same
+pub same-self : (x : Bytes) → same x x ≡ true
+unfolding same
+same-self [] = refl
+same-self (c ∷ x) = rw (eq-eqb c c refl, same) (same-self x)
 
 -- one piece has no such byte
 pub whole-without : (b : ℕ) (x : Bytes) {p : Bytes} → split b x ≡ p ∷ [] → (left right : Bytes) → x ≡ left ++ (b ∷ right) → ⊥

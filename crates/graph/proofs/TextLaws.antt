@@ -7,7 +7,7 @@ use native.Mathlib.Omega.{arith}
 use borrow.Author.Tests.{lt-ltb, le-ltb}
 use lib.ListN.{length, drop, drop-of-length-le}
 use lib.Seq.{drop-cons}
-use Rattle.assertion.specs.Graph.{Bytes, Graph}
+use Rattle.assertion.specs.Graph.{Bytes, Graph, signalBits, constantBits}
 use Rattle.graph.specs.Pieces.{split, endAt, pieceAt}
 use Rattle.graph.specs.Records.{recordOf}
 use Rattle.graph.specs.Reading.{Step, fault, went, modeLines, add, refused, finished, readLines, nothing, graphOf}
@@ -20,7 +20,8 @@ use Rattle.graph.specs.declared.Cause.the-variants.{TextTooLong, FaultyL
 use Rattle.graph.specs.declared.CheckedGraph.{CheckedGraph}
 use Rattle.graph.specs.declared.Added.{Added}
 use Rattle.graph.proofs.PieceLaws.{split-cut, split-last, split-some}
-use Rattle.graph.proofs.ArrayLaws.{signals-are, constants-are, vertices-are, edges-are}
+use Rattle.graph.proofs.BitLaws.{bits-some, each-left, each-right}
+use Rattle.graph.proofs.ArrayLaws.{named-is, signals-are, constants-are, vertices-are, edges-are}
 use Rattle.graph.proofs.HeldLaws.{Grown, line-step, nothing-grown}
 
 -- ---- one line after the other
@@ -78,12 +79,23 @@ added-went text g (went more) e h = (more, refl, ap (λ (a : Added). a .graph) e
 
 module _ (text : Bytes) (g : CheckedGraph) (at line : ℕ) (h : Going text g at line) where
   pub going-holds : Holds text g (h .graph)
-  going-holds = record { arrays = h .arrays; names = h .grown .names; points = h .grown .points }
+  going-holds = record { arrays = h .arrays; names = h .grown .names; widths = h .grown .widths; vertices = h .grown .vertices }
 
   pub going-kept : Kept g
+  unfolding signalBits constantBits
   going-kept =
       let w = h .grown in
+      let ss = h .graph .signals in
+      let cs = h .graph .constants in
       record {
+        named-few = omega (
+          arith,
+          named-is text g (h .graph) going-holds,
+          signals-are text g (h .graph) going-holds,
+          constants-are text g (h .graph) going-holds,
+          bits-some ss (each-left ss cs (w .widths)),
+          bits-some cs (each-right ss cs (w .widths)),
+        );
         signals-few = rw (signals-are text g (h .graph) going-holds) (w .signals-few);
         constants-few = rw (constants-are text g (h .graph) going-holds) (w .constants-few);
         vertices-few = rw (vertices-are text g (h .graph) going-holds) (w .vertices-few);

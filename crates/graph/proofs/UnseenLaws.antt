@@ -7,10 +7,10 @@ use native.Mathlib.Omega.{arith}
 use lib.Dec.{eqb, ltb, leb}
 use lib.ListN.{length, length-append}
 use Rattle.formula.specs.Classes.{pick}
-use Rattle.assertion.specs.Graph.{Bytes, Edge, Graph}
+use Rattle.assertion.specs.Graph.{Bytes, Edge, Graph, signalBits, constantBits}
 use Rattle.assertion.specs.declared.Mode.{Mode}
 use Rattle.assertion.specs.declared.Mode.the-variants.{Unsaid}
-use Rattle.graph.specs.Pieces.{split, lookUp}
+use Rattle.graph.specs.Pieces.{split, lookUp, lookUpName}
 use Rattle.graph.specs.Records.{Record, shapeless, mode, signal, constant, vertex, edge, recordOf}
 use Rattle.graph.specs.Reading.{Step, fault, went, modeLines, addSignal, addConstant, addVertex, edgeOf, namesOf, unlessFaulty, judgeEdge, addEdge, add, refused, accepted, finished, readLines, nothing, graphOf}
 use Rattle.graph.specs.ModeClaims.{ModeWord, ModeLine, FirstLine, Moved}
@@ -48,13 +48,13 @@ module _ (m : Mode) where
   in-tested false false false f1 f2 f3 g = refl
 
   module _ (g : Graph) where
-    in-signal : (n : Bytes) → addSignal (plusMode g m) n ≡ inMode (addSignal g n)
-    unfolding addSignal
-    in-signal n = in-tested (ltb 0 (length (g .constants) + length (g .vertices) + length (g .edges))) (leb 63 (length (g .signals))) (lookUp n (namesOf g) .known) WrongOrder TooMany NameRepeated (plusSignal g n)
+    in-signal : (n : Bytes) (w : ℕ) → addSignal (plusMode g m) n w ≡ inMode (addSignal g n w)
+    unfolding addSignal signalBits
+    in-signal n w = in-tested (ltb 0 (length (g .constants) + length (g .vertices) + length (g .edges))) (ltb 63 (signalBits g + w)) (lookUpName n (namesOf g) .known) WrongOrder TooMany NameRepeated (plusSignal g n w)
 
-    in-constant : (n : Bytes) → addConstant (plusMode g m) n ≡ inMode (addConstant g n)
-    unfolding addConstant
-    in-constant n = in-tested (ltb 0 (length (g .vertices) + length (g .edges))) (leb 6 (length (g .constants))) (lookUp n (namesOf g) .known) WrongOrder TooMany NameRepeated (plusConstant g n)
+    in-constant : (n : Bytes) (w : ℕ) → addConstant (plusMode g m) n w ≡ inMode (addConstant g n w)
+    unfolding addConstant constantBits
+    in-constant n w = in-tested (ltb 0 (length (g .vertices) + length (g .edges))) (ltb 6 (constantBits g + w)) (lookUpName n (namesOf g) .known) WrongOrder TooMany NameRepeated (plusConstant g n w)
 
     in-vertex : (n : Bytes) → addVertex (plusMode g m) n ≡ inMode (addVertex g n)
     unfolding addVertex
@@ -66,7 +66,7 @@ module _ (m : Mode) where
     in-fine (Faulty k) e = refl
 
     in-edge : (f t : Bytes) (b : Bool) (a c : Bytes) → addEdge (plusMode g m) f t b a c ≡ inMode (addEdge g f t b a c)
-    unfolding inMode addEdge judgeEdge edgeOf
+    unfolding inMode addEdge judgeEdge edgeOf signalBits
     in-edge f t b a c = rw (in-fine, ← in-pick, ← in-pick, ← in-pick)
 
     -- a line is judged alike, unless it is a mode and the first
@@ -77,8 +77,8 @@ module _ (m : Mode) where
         let n = h k refl in
         let z : modeLines (g .mode) ≡ 0 = ap modeLines u in
         rw (mode-refused (plusMode g m) k (omega (arith, n, z)), mode-refused g k n)
-    in-record (signal n) h u = in-signal n
-    in-record (constant n) h u = in-constant n
+    in-record (signal n w) h u = in-signal n w
+    in-record (constant n w) h u = in-constant n w
     in-record (vertex n) h u = in-vertex n
     in-record (edge f t b a c) h u = in-edge f t b a c
 

@@ -1,12 +1,12 @@
 -- What reading a graph text answers: the checked graph by places in the text. Record k of the text, from
 -- 0, is its line k + 1, and the mode, signals, constants, vertices and edges follow one another, so each
 -- array is given by the lines of its records. Assumes nothing.
-use Prim.Native.Nat.{ℕ, zero, suc, _+_, _-_}
+use Prim.Native.Nat.{ℕ, zero, suc, _+_, _*_, _-_, _/_, _%_}
 use mathlib.Core.Bool.{Bool, false}
 use mathlib.Core.List.{List, [], _∷_, _++_}
-use lib.ListN.{length, drop, replicate}
-use Rattle.assertion.specs.Graph.{Bytes, Edge, Graph, isTerminal}
-use Rattle.graph.specs.Pieces.{upTo, endAt, pieceAt}
+use lib.ListN.{length, take, drop, replicate}
+use Rattle.assertion.specs.Graph.{Bytes, Name, Edge, Graph, signalBits, constantBits, isTerminal}
+use Rattle.graph.specs.Pieces.{upTo, endAt, pieceAt, Declared}
 use Rattle.graph.specs.Reading.{modeLines, Outcome, refused, accepted, nothing, graphOf}
 use Rattle.graph.specs.declared.Arc.{Arc}
 use Rattle.graph.specs.declared.CheckedGraph.{CheckedGraph}
@@ -35,7 +35,18 @@ unfoldable pub fieldAt : Bytes → ℕ → ℕ → ℕ
 fieldAt text n k = lineStart text n + fieldStart (lineOf text n) k
 
 -- ---- the arrays
--- the places of the names in count lines from line n on: a name is field 1
+-- the word of a signal or a constant: where its name starts; its length, below 16; the place of its first bit, below
+-- 128; and its width, below 32
+unfoldable pub symbolWord : ℕ → ℕ → ℕ → ℕ → ℕ
+symbolWord start n place w = start * 65536 + n * 4096 + place * 32 + w
+
+-- signals and constants whose first is line n and whose first bit has the place p: a name is field 1, and the bits
+-- of each follow those before it
+unfoldable pub symbolsOf : Bytes → ℕ → ℕ → List Name → List ℕ
+symbolsOf text n p [] = []
+symbolsOf text n p (x ∷ xs) = symbolWord (fieldAt text n 1) (fieldLength (lineOf text n) 1) p (x .width) ∷ symbolsOf text (n + 1) (p + x .width) xs
+
+-- the places of the vertices' names in count lines from line n on: a name is field 1
 unfoldable pub namePlaces : Bytes → ℕ → ℕ → List ℕ
 namePlaces text n zero = []
 namePlaces text n (suc count) = fieldAt text n 1 ∷ namePlaces text (n + 1) count
@@ -62,6 +73,10 @@ arcsOf t text n (e ∷ es) = arcOf text n (t e) e ∷ arcsOf t text (n + 1) es
 abbrev pub noArc : Arc
 noArc = record { from = 0; to = 0; terminal = false; left = 0; lefts = 0; right = 0; rights = 0 }
 
+-- a signal or a constant by its word
+unfoldable pub declaredIn : Bytes → ℕ → Declared
+declaredIn text y = record { name = take (y / 4096 % 16) (drop (y / 65536) text); place = y / 32 % 128; width = y % 32 }
+
 -- an array of n elements, of which the first are given
 unfoldable pub filled : {A : Type 0} → ℕ → A → List A → List A
 filled n d xs = xs ++ replicate (n - length xs) d
@@ -73,11 +88,12 @@ heldAs t text g =
     let named = length (g .signals) + length (g .constants) in
     record {
       mode = g .mode;
-      signals = length (g .signals);
-      constants = length (g .constants);
+      named = named;
+      signals = signalBits g;
+      constants = constantBits g;
       vertices = length (g .vertices);
       edges = length (g .edges);
-      names = filled 69 0 (namePlaces text first named);
+      names = filled 69 0 (symbolsOf text first 0 (g .signals ++ g .constants));
       points = filled 64 0 (namePlaces text (first + named) (length (g .vertices)));
       arcs = filled 128 noArc (arcsOf t text (first + named + length (g .vertices)) (g .edges));
     }

@@ -9,7 +9,7 @@ use mathlib.Core.Bool.{true}
 use mathlib.Core.List.{[], _∷_, _++_}
 use lib.ListN.{length, getD, drop}
 use Rattle.text.specs.Lines.{StartsLine}
-use Rattle.assertion.specs.Graph.{Bytes, Graph}
+use Rattle.assertion.specs.Graph.{Bytes, Graph, signalBits, constantBits}
 use Rattle.assertion.specs.declared.Mode.{Mode}
 use Rattle.assertion.specs.declared.Mode.the-variants.{Unsaid, Terminal, Strong}
 use Rattle.graph.specs.Reading.{Outcome, refused, accepted, refusalOf, graphOf}
@@ -85,8 +85,9 @@ pub record Answered (text : Bytes) (g : Graph) (r : GraphRead) : Type 0 where
   pub checked : r .outcome ≡ Checked
   pub held : r .graph ≡ heldOf text g
   pub mode : r .graph .mode ≡ g .mode
-  pub signals : r .graph .signals ≡ length (g .signals)
-  pub constants : r .graph .constants ≡ length (g .constants)
+  pub named : r .graph .named ≡ length (g .signals) + length (g .constants)
+  pub signals : r .graph .signals ≡ signalBits g
+  pub constants : r .graph .constants ≡ constantBits g
   pub vertices : r .graph .vertices ≡ length (g .vertices)
   pub edges : r .graph .edges ≡ length (g .edges)
 

@@ -3,7 +3,7 @@ ghost use mathlib.Core.Path.{_≡_};
 ghost use Prim.Native.Nat.{_+_, _^_, _≤_, _<_};
 ghost use lib.ListN.{length};
 ghost use Rattle.graph.specs.Pieces.{pieceAt, lookUp};
-ghost use Rattle.graph.specs.Private.Steps.{listed, Kept, judgedArc, arcFrom, AddsArc, AddsEdge, withEdge};
+ghost use Rattle.graph.specs.Private.Steps.{pointed, Kept, narrowIn, judgedArc, arcFrom, AddsArc, AddsEdge, withEdge};
 use crate::Added;
 use crate::Arc;
 use crate::CheckedGraph;
@@ -35,9 +35,9 @@ fn with_edge(g: CheckedGraph, e: Arc) -> CheckedGraph
 // The lower fault of an edge's two formulas.
 fn judge_both(text: &[u8], g: CheckedGraph, e: Arc) -> Judged
     requires { ⌜ Kept g ⌝ }
-    ensures { λ r. ⌜ r ≡ judgedArc (now (text .entry)) g e ⌝ }
+    ensures { λ r. ⌜ (narrowIn (now (text .entry)) g → r ≡ judgedArc (now (text .entry)) g e) ⌝ }
 {
-    let total = g.signals + g.constants;
+    let total = g.named;
     let a = judge(text, &g.names, total, part(text, e.left, e.lefts));
     let c = judge(text, &g.names, total, part(text, e.right, e.rights));
     lower_of(a, c)
@@ -61,7 +61,7 @@ fn judge_edge(text: &[u8], g: CheckedGraph, e: Arc) -> Added
 
 // The vertex whose name is the field at a place of the line.
 fn vertex_at(text: &[u8], g: CheckedGraph, line: &[u8], at: usize) -> Found
-    ensures { λ r. ⌜ r ≡ lookUp (pieceAt 9 (now (line .entry)) at) (listed (now (text .entry)) (g .points) (g .vertices)) ⌝ }
+    ensures { λ r. ⌜ r ≡ lookUp (pieceAt 9 (now (line .entry)) at) (pointed (now (text .entry)) (g .points) (g .vertices)) ⌝ }
 {
     let count = g.vertices;
     look_up(text, &g.points, count, piece(line, at, b'\t'))

@@ -1,7 +1,7 @@
 // Graph text: its `M` line, its records, its refusals, and the checked graph by places in the text; what a
 // graph and a rejecting path are stands in assertion. Knows nothing of netlists. Exports that the graph of an
-// accepted text keeps to the limits, that its names and formulas stand where the checked graph says, and what
-// `M` lines and marks make of it.
+// accepted text keeps to the limits, that its names and formulas stand where the checked graph says, what each
+// formula means, and what `M` lines, marks, widths and the names of formulas make of it.
 ghost use mathlib.Core.Path.{_≡_};
 ghost use Prim.Native.Nat.{_+_, _≤_};
 ghost use lib.ListN.{length};
@@ -11,6 +11,8 @@ ghost use Rattle.graph.specs.Reading.{faultNumber, refusalOf, refused, f
 ghost use Rattle.graph.specs.Held.{answerOf, readOf};
 ghost use Rattle.graph.specs.Claims.{GraphMeans};
 ghost use Rattle.graph.specs.ModeClaims.{ModeMeans};
+ghost use Rattle.graph.specs.WidthClaims.{WidthMeans};
+ghost use Rattle.graph.specs.FormulaClaims.{FormulaMeans};
 ghost use Rattle.graph.specs.Private.Steps.{Kept, writtenOf, faultyOf, AddsLine};
 
 mod edges;
@@ -22,7 +24,7 @@ mod records;
 mod shapes;
 
 use assertion::Mode;
-pub use names::look_up;
+pub use names::look_up_name;
 pub use pieces::part;
 
 // A graph text has at most so many bytes.
@@ -34,7 +36,7 @@ pub enum Fault {
     WrongShape,
     // A record after one of a later kind, or an `M` line after any line.
     WrongOrder,
-    // One record too many of its kind.
+    // One record, or one bit, too many of its kind.
     TooMany,
     // A name that has come already.
     NameRepeated,
@@ -46,6 +48,8 @@ pub enum Fault {
     TooDeep,
     // A formula with an unknown name.
     UnknownName,
+    // A formula with unequal widths around `==`, a bit beyond the width, or a wide name where one bit is due.
+    WrongWidth,
 }
 
 // What judging a formula finds.
@@ -63,10 +67,17 @@ pub enum Cause {
     NoVertex,
 }
 
-// What looking up a name answers: whether it is known, and its place.
+// What looking up a vertex answers: whether it is known, and its place.
 pub struct Found {
     pub known: bool,
     pub place: usize,
+}
+
+// What looking up a signal or a constant answers: whether it is known, the place of its first bit, and its width.
+pub struct FoundName {
+    pub known: bool,
+    pub place: usize,
+    pub width: usize,
 }
 
 // An edge: its vertices, whether it is terminal, and where its antecedent and its consequent stand in the
@@ -81,10 +92,13 @@ pub struct Arc {
     pub rights: usize,
 }
 
-// A checked graph: its mode; how many signals, constants, vertices and edges there are; where the names of
-// the signals and then the constants, and those of the vertices, start in the text; and the edges.
+// A checked graph: its mode; how many signals and constants are named, and how many bits the signals and the
+// constants have; how many vertices and edges there are; the signals and then the constants, each as a word of
+// where its name starts in the text, its length, the place of its first bit and its width; where the names of the
+// vertices start in the text; and the edges.
 pub struct CheckedGraph {
     pub mode: Mode,
+    pub named: usize,
     pub signals: usize,
     pub constants: usize,
     pub vertices: usize,
@@ -109,8 +123,16 @@ pub struct GraphRead {
 enum Shape {
     Wrong,
     Moded(Mode),
-    Signal(usize),
-    Constant(usize),
+    Signal {
+        at: usize,
+        length: usize,
+        width: usize,
+    },
+    Constant {
+        at: usize,
+        length: usize,
+        width: usize,
+    },
     Vertex(usize),
     Edge {
         from: usize,
@@ -140,6 +162,7 @@ fn fault_number(fault: Fault) -> u8
         Fault::NotFormula => 7,
         Fault::TooDeep => 8,
         Fault::UnknownName => 9,
+        Fault::WrongWidth => 19,
     }
 }
 
@@ -174,7 +197,7 @@ fn faulty(g: CheckedGraph, fault: Fault) -> Added
 
 // The record of the line from `at` to its end.
 fn add_line(text: &[u8], g: CheckedGraph, at: usize, end: usize) -> Added
-    requires { ⌜ Kept g × (end ≡ endAt 10 (now text) at) × (at ≤ end) × (end ≤ length (now text)) ⌝ }
+    requires { ⌜ Kept g × (end ≡ endAt 10 (now text) at) × (at ≤ end) × (end ≤ length (now text)) × (length (now text) ≤ 32768) ⌝ }
     ensures { λ r. ⌜ AddsLine (now (text .entry)) g at r ⌝ }
 {
     let line = &text[at..end];
@@ -182,8 +205,16 @@ fn add_line(text: &[u8], g: CheckedGraph, at: usize, end: usize) -> Added
     match shape {
         Shape::Wrong => faulty(g, Fault::WrongShape),
         Shape::Moded(mode) => modes::add_mode(g, mode),
-        Shape::Signal(p) => records::add_signal(text, g, at + p),
-        Shape::Constant(p) => records::add_constant(text, g, at + p),
+        Shape::Signal {
+            at: p,
+            length,
+            width,
+        } => records::add_signal(text, g, at + p, length, width),
+        Shape::Constant {
+            at: p,
+            length,
+            width,
+        } => records::add_constant(text, g, at + p, length, width),
         Shape::Vertex(p) => records::add_vertex(text, g, at + p),
         Shape::Edge {
             from,
@@ -213,6 +244,7 @@ fn empty() -> CheckedGraph
     let arcs = [none; 128];
     CheckedGraph {
         mode: Mode::Unsaid,
+        named: 0,
         signals: 0,
         constants: 0,
         vertices: 0,
@@ -254,6 +286,8 @@ pub fn read_graph(text: &[u8]) -> GraphRead
     ensures { λ r. ⌜ r ≡ readOf (now (text .entry)) ⌝ }
     ensures sound { λ _. ⌜ GraphMeans (now (text .entry)) ⌝ }
     ensures modes { λ r. ⌜ ModeMeans (now (text .entry)) r ⌝ }
+    ensures widths { λ r. ⌜ WidthMeans (now (text .entry)) r ⌝ }
+    ensures formulas { λ r. ⌜ FormulaMeans (now (text .entry)) r ⌝ }
 {
     if LONGEST_TEXT < text.len() {
         return refuse(Cause::TextTooLong);

@@ -34,6 +34,7 @@ fn with_mode(g: CheckedGraph, mode: Mode) -> CheckedGraph
     let arcs = g.arcs;
     CheckedGraph {
         mode,
+        named: g.named,
         signals: g.signals,
         constants: g.constants,
         vertices: g.vertices,
@@ -51,7 +52,7 @@ pub(crate) fn add_mode(g: CheckedGraph, mode: Mode) -> Added
 {
     let said = g.mode;
     let first = mode_lines(said);
-    if 0 < first + g.signals + g.constants + g.vertices + g.edges {
+    if 0 < first + g.named + g.vertices + g.edges {
         return faulty(g, Fault::WrongOrder);
     }
     let graph = with_mode(g, mode);

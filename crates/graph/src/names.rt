@@ -1,18 +1,35 @@
-// Names that start at places of a text, and a name looked up among them.
+// A vertex looked up among those whose names start at places of a text, and a signal or a constant among those
+// declared, each by its word.
 ghost use mathlib.Core.Path.{_≡_};
 ghost use mathlib.Core.List.{map};
 ghost use Prim.Native.Nat.{_≤_};
 ghost use lib.ListN.{length, take};
-ghost use Rattle.graph.specs.Pieces.{pieceAt, placeOf, lookUp};
-ghost use Rattle.graph.specs.Private.Steps.{listed};
+ghost use Rattle.graph.specs.Pieces.{pieceAt, placeOf, lookUp, lookUpName};
+ghost use Rattle.graph.specs.Held.{declaredIn};
+ghost use Rattle.graph.specs.Private.Steps.{pointed};
 use crate::Found;
+use crate::FoundName;
+use crate::pieces::part;
 use crate::pieces::piece;
 use crate::pieces::same_bytes;
 
-// The place of a name among the first `count` names, or `count`.
+// The word of a signal or a constant is this much for each place of the text before its name, each byte of its
+// name, each bit before its first, and 1 for each bit of its width; no name has so many bytes, and no bit so many
+// before it.
+pub(crate) const START: usize = 65536;
+
+pub(crate) const LENGTH: usize = 4096;
+
+const LENGTHS: usize = 16;
+
+pub(crate) const PLACE: usize = 32;
+
+const PLACES: usize = 128;
+
+// The place of a vertex among the first `count`, or `count`.
 fn place(text: &[u8], starts: &[usize], count: usize, name: &[u8]) -> usize
     requires { ⌜ count ≤ length (now starts) ⌝ }
-    ensures { λ r. ⌜ r ≡ placeOf (now (name .entry)) (listed (now (text .entry)) (now (starts .entry)) count) ⌝ }
+    ensures { λ r. ⌜ r ≡ placeOf (now (name .entry)) (pointed (now (text .entry)) (now (starts .entry)) count) ⌝ }
 {
     let mut k = 0;
     while k < count {
@@ -25,9 +42,9 @@ fn place(text: &[u8], starts: &[usize], count: usize, name: &[u8]) -> usize
     k
 }
 
-// Looks a name up among the first `count` names, or among all where there are fewer. A name is given by
-// its start and runs to its LF.
-pub fn look_up(text: &[u8], starts: &[usize], count: usize, name: &[u8]) -> Found
+// Looks a vertex up among the first `count`, or among all where there are fewer. Its name is given by its start
+// and runs to its LF.
+pub(crate) fn look_up(text: &[u8], starts: &[usize], count: usize, name: &[u8]) -> Found
     ensures { λ r. ⌜ r ≡ lookUp (now (name .entry)) (map (pieceAt 10 (now (text .entry))) (take count (now (starts .entry)))) ⌝ }
 {
     let mut most = count;
@@ -38,5 +55,28 @@ pub fn look_up(text: &[u8], starts: &[usize], count: usize, name: &[u8]) -> Foun
     Found {
         known: at < most,
         place: at,
+    }
+}
+
+// Looks a signal or a constant up among the first `count`, or among all where there are fewer.
+pub fn look_up_name(text: &[u8], symbols: &[usize], count: usize, name: &[u8]) -> FoundName
+    ensures { λ r. ⌜ r ≡ lookUpName (now (name .entry)) (map (declaredIn (now (text .entry))) (take count (now (symbols .entry)))) ⌝ }
+{
+    let mut k = 0;
+    while k < count && k < symbols.len() {
+        let y = symbols[k];
+        if same_bytes(name, part(text, y / START, y / LENGTH % LENGTHS)) {
+            return FoundName {
+                known: true,
+                place: y / PLACE % PLACES,
+                width: y % PLACE,
+            };
+        }
+        k += 1;
+    }
+    FoundName {
+        known: false,
+        place: 0,
+        width: 0,
     }
 }

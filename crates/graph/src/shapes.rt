@@ -1,16 +1,27 @@
 // The record of a line, by the places where its fields start.
-ghost use lib.ListN.{drop};
+ghost use mathlib.Core.Path.{_≡_};
+ghost use Prim.Native.Nat.{_-_, _≤_};
+ghost use lib.ListN.{length, take, drop};
 ghost use Rattle.assertion.specs.Graph.{Bytes};
 ghost use Rattle.graph.specs.Pieces.{pieceAt};
-ghost use Rattle.graph.specs.Records.{recordOf, moded, named};
-ghost use Rattle.graph.specs.Private.Steps.{FieldOf, Shaped, markedAt, edgedAt};
+ghost use Rattle.graph.specs.Records.{recordOf, moded, named, sized, widthOf};
+ghost use Rattle.graph.specs.Private.Steps.{FieldOf, NameOf, Shaped, markedAt, edgedAt};
 use crate::Shape;
 use crate::pieces::end_at;
 use crate::pieces::is_byte;
+use crate::pieces::part;
 use crate::pieces::piece;
 use crate::pieces::same_bytes;
 use assertion::Mode;
 use formula::is_name;
+use text::Number;
+use text::read_number;
+
+// No name is wider.
+const WIDEST: usize = 16;
+
+// The width where the field is absent.
+const ABSENT: usize = 1;
 
 // An `M` line by its word.
 fn mode_shape(word: &[u8]) -> Shape
@@ -25,27 +36,59 @@ fn mode_shape(word: &[u8]) -> Shape
     Shape::Wrong
 }
 
+// A name's width: 1 to 16, or 0 where the field is none.
+fn width_of(field: &[u8]) -> usize
+    ensures { λ r. ⌜ r ≡ widthOf (now (field .entry)) ⌝ }
+{
+    let read = read_number(field, 0);
+    match read {
+        Number::None => 0,
+        Number::Read(value, next) => {
+            if next == field.len() && value <= WIDEST {
+                value
+            } else {
+                0
+            }
+        }
+    }
+}
+
+// A signal's or a constant's record: its name from `at` on, `length` bytes, and its width.
+fn sized_shape(line: &[u8], at: usize, length: usize, width: usize) -> Shape
+    requires { ⌜ NameOf (now line) at length × (width ≤ 16) ⌝ }
+    ensures { λ r. ⌜ Shaped (now (line .entry)) (sized (pieceAt 9 (now (line .entry)) 0) (take length (drop at (now (line .entry)))) width) r ⌝ }
+{
+    let kind = piece(line, 0, b'\t');
+    if is_name(part(line, at, length)) {
+        if width == 0 {
+            return Shape::Wrong;
+        }
+        if is_byte(kind, b'S') {
+            return Shape::Signal { at, length, width };
+        }
+        if is_byte(kind, b'K') {
+            return Shape::Constant { at, length, width };
+        }
+    }
+    Shape::Wrong
+}
+
 // A record of two fields.
 fn named_shape(line: &[u8], at: usize) -> Shape
-    requires { ⌜ FieldOf (now line) 1 at ⌝ }
+    requires { ⌜ NameOf (now line) at (length (now line) - at) ⌝ }
     ensures { λ r. ⌜ Shaped (now (line .entry)) (named (pieceAt 9 (now (line .entry)) 0) (drop at (now (line .entry)))) r ⌝ }
 {
     let kind = piece(line, 0, b'\t');
     if is_byte(kind, b'M') {
         return mode_shape(&line[at..]);
     }
-    if is_name(&line[at..]) {
-        if is_byte(kind, b'S') {
-            return Shape::Signal(at);
-        }
-        if is_byte(kind, b'K') {
-            return Shape::Constant(at);
-        }
-        if is_byte(kind, b'V') {
+    if is_byte(kind, b'V') {
+        if is_name(&line[at..]) {
             return Shape::Vertex(at);
         }
+        return Shape::Wrong;
     }
-    Shape::Wrong
+    sized_shape(line, at, line.len() - at, ABSENT)
 }
 
 // An edge's record, but for its kind and its vertices.
@@ -100,7 +143,7 @@ fn edge_shape(line: &[u8], from: usize, to: usize, mark: usize, left: usize, rig
     Shape::Wrong
 }
 
-// The record of a line: two fields or six, parted by tabs.
+// The record of a line: two fields, three or six, parted by tabs.
 pub(crate) fn shape_of(line: &[u8]) -> Shape
     ensures { λ r. ⌜ Shaped (now (line .entry)) (recordOf (now (line .entry))) r ⌝ }
 {
@@ -114,7 +157,8 @@ pub(crate) fn shape_of(line: &[u8]) -> Shape
     }
     let t2 = end_at(line, t1 + 1, b'\t');
     if t2 == line.len() {
-        return Shape::Wrong;
+        let width = width_of(&line[t1 + 1..]);
+        return sized_shape(line, t0 + 1, t1 - (t0 + 1), width);
     }
     let t3 = end_at(line, t2 + 1, b'\t');
     if t3 == line.len() {

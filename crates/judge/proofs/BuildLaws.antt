@@ -7,7 +7,7 @@ use native.Mathlib.Omega.{arith}
 use borrow.Author.Tests.{leb-true, leb-false}
 use lib.Dec.{leb}
 use lib.ListN.{length, drop}
-use Rattle.assertion.specs.Graph.{Bytes, Graph}
+use Rattle.assertion.specs.Graph.{Bytes, Graph, constantBits}
 use Rattle.graph.specs.Reading.{Outcome, refused, accepted, graphOf}
 use Rattle.circuit.specs.Build.{gatesOf}
 use Rattle.circuit.specs.Numbers.{numbersOf}
@@ -20,7 +20,7 @@ use Rattle.builder.specs.Build.{variablesOf, BuildEnd, buildEnd, buildAs, build
 use Rattle.builder.specs.Claims.{BuildMeans}
 use Rattle.demand.specs.Demand.{Demand3}
 
-pub numbers-length : (g : Graph) → length (numbersOf g) ≡ 6 + 2 * (length (g .constants) + 2 * length (g .edges)) + 2 * length (gatesOf g)
+pub numbers-length : (g : Graph) → length (numbersOf g) ≡ 6 + 2 * (constantBits g + 2 * length (g .edges)) + 2 * length (gatesOf g)
 numbers-length g = ap length (sym (append-nil (numbersOf g))) ∙ omega (arith, long g [])
 
 -- no netlist of at most 4,095 variables has more than 8,194 numbers

@@ -7,7 +7,7 @@ use native.Mathlib.Omega.{arith}
 use borrow.Author.Tests.{leb-true, leb-false, eqb-true, eqb-false}
 use lib.Dec.{eqb, leb}
 use lib.ListN.{length, drop}
-use Rattle.assertion.specs.Graph.{Bytes, Graph}
+use Rattle.assertion.specs.Graph.{Bytes, Graph, signalBits}
 use Rattle.assertion.specs.Paths.{verdicts, countRejected, PathsMean}
 use Rattle.assertion.proofs.PathLaws.{paths-mean}
 use Rattle.graph.specs.Reading.{Outcome, refused, accepted, graphOf}
@@ -36,7 +36,7 @@ module _ (text trace : Bytes) (before : List ℕ) where
 
   module _ (g : Graph) (is : IsGraph text g) where
     abbrev n : ℕ
-    n = 1 + length (g .signals)
+    n = 1 + signalBits g
 
     abbrev cycles : List Bytes
     cycles = cyclesOf n trace

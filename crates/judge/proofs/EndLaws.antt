@@ -8,7 +8,7 @@ use native.Mathlib.Omega.{arith}
 use borrow.Author.Tests.{leb-true, le-leb}
 use lib.Dec.{eqb, leb}
 use lib.ListN.{length, drop}
-use Rattle.assertion.specs.Graph.{Bytes, Graph}
+use Rattle.assertion.specs.Graph.{Bytes, Graph, signalBits}
 use Rattle.assertion.specs.Paths as paths
 use Rattle.assertion.specs.Paths.{countRejected}
 use Rattle.graph.specs.Reading.{Outcome, refused, accepted, graphOf}
@@ -33,9 +33,9 @@ use Rattle.judge.proofs.BuildLaws.{graphEnd}
 pub cycles-most : (g : Graph) (trace : Bytes) → length (cyclesOf (inputsOf g) trace) * 2 ≤ length trace
 unfolding inputsOf
 cycles-most g trace =
-    let n = lineCount (1 + length (g .signals)) trace in
-    let two : n * 2 ≤ n * (1 + length (g .signals) + 1) = mul-le-mul-left n (omega arith) in
-    omega (arith, two, lines-fit (1 + length (g .signals)) trace, length-cycles (1 + length (g .signals)) trace)
+    let n = lineCount (1 + signalBits g) trace in
+    let two : n * 2 ≤ n * (1 + signalBits g + 1) = mul-le-mul-left n (omega arith) in
+    omega (arith, two, lines-fit (1 + signalBits g) trace, length-cycles (1 + signalBits g) trace)
 
 -- how many cycles were judged
 unfoldable cyclesIn : Judged → ℕ

@@ -14,7 +14,7 @@ use Rattle.netlist.specs.Layout.{maximum, inputCount, latchCount}
 use Rattle.netlist.specs.Meaning.{words}
 use Rattle.netlist.specs.Valid.{isNetlist}
 use Rattle.netlist.proofs.ValidLaws.{Valid, valid}
-use Rattle.assertion.specs.Graph.{Bytes, Graph}
+use Rattle.assertion.specs.Graph.{Bytes, Graph, signalBits}
 use Rattle.assertion.specs.Paths as paths
 use Rattle.assertion.specs.Paths.{countRejected}
 use Rattle.graph.specs.Reading.{graphOf}
@@ -238,6 +238,6 @@ module _ (text trace : Bytes) (bytes : List ℕ) {room : List ℕ} (means : Buil
   made-judged {made} h =
       let m = build-made room enough text made (build-answered text room e h) in
       let demand : Demand3 (m .g) net made = rw (build-left text room e) at (made-demand room enough text made (build-answered text room e h) means) in
-      let inputs : inputCount net ≡ 1 + length (m .g .signals) = ap inputCount (sym (build-left text room e) ∙ m .net) ∙ inputs-are (m .g) (drop (length (numbersOf (m .g))) room) in
+      let inputs : inputCount net ≡ 1 + signalBits (m .g) = ap inputCount (sym (build-left text room e) ∙ m .net) ∙ inputs-are (m .g) (drop (length (numbersOf (m .g))) room) in
       run-judged net trace (demand .netlist) (replicate 4094 0) (replicate 4096 0) bytes (omega (arith, length-replicate {A = ℕ} 4094 0)) (omega (arith, length-replicate {A = ℕ} 4096 0)) (m .g) made demand inputs
       ∙ sym (by-graph ∙ made-end room enough text made (build-answered text room e h) (λ g. traceJudged g trace bytes) refuse)

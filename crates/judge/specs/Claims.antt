@@ -4,7 +4,7 @@ use mathlib.Core.Path.{_≡_}
 use mathlib.Core.List.{List, [], _++_}
 use Prim.Native.Nat.{ℕ, suc, _+_, _<_, _≤_}
 use lib.ListN.{length, drop}
-use Rattle.assertion.specs.Graph.{Bytes, Graph}
+use Rattle.assertion.specs.Graph.{Bytes, Graph, signalBits}
 use Rattle.assertion.specs.Paths.{verdicts, countRejected}
 use Rattle.graph.specs.declared.Cause as graph
 use Rattle.graph.specs.Reading as reading
@@ -30,7 +30,7 @@ pub record IsGraph (text : Bytes) (g : Graph) : Type 0 where
 pub record IsTrace (g : Graph) (trace : Bytes) (cycles : List Bytes) : Type 0 where
   pub short : length trace ≤ 1048576
   pub lines : trace ≡ linesOf cycles
-  pub right : Cycles (1 + length (g .signals)) cycles
+  pub right : Cycles (1 + signalBits g) cycles
 
 -- WHAT A JUDGEMENT SAYS that found `before` in the verdict buffer and left `after`. Refuses cause number line: it refuses
 -- so, for this cause. Gives cycles rejected verdict: it answers these.
@@ -45,7 +45,7 @@ pub data JudgeMeans (text trace before after : List ℕ) (Refuses : Cause → �
       → JudgeMeans text trace before after Refuses Gives
   -- the first wrong line, counted from 1
   wrong-line : (g : Graph) (k : ℕ) → Refuses (cause.Trace (WrongLine (suc k))) 15 (suc k) → after ≡ before → IsGraph text g
-      → length trace ≤ 1048576 → FirstWrong (1 + length (g .signals)) k trace
+      → length trace ≤ 1048576 → FirstWrong (1 + signalBits g) k trace
       → JudgeMeans text trace before after Refuses Gives
   short : (g : Graph) (cycles : List Bytes) → Refuses (cause.Trace ShortBuffer) 12 0 → after ≡ before → IsGraph text g → IsTrace g trace cycles
       → length before < length cycles

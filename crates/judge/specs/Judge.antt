@@ -6,7 +6,7 @@ use Prim.Native.Nat.{ℕ, _+_}
 use lib.Dec.{eqb, leb}
 use lib.ListN.{length, drop}
 use Rattle.text.specs.declared.Refusal.{Refusal}
-use Rattle.assertion.specs.Graph.{Bytes, Graph}
+use Rattle.assertion.specs.Graph.{Bytes, Graph, signalBits}
 use Rattle.assertion.specs.Paths as paths
 use Rattle.assertion.specs.Paths.{countRejected}
 use Rattle.graph.specs.Reading.{Outcome, refused, accepted, graphOf}
@@ -28,9 +28,9 @@ unfoldable pub refusalOf : Cause → Refusal
 refusalOf (cause.Graph c) = build.refusalOf c
 refusalOf (cause.Trace c) = calls.refusalOf c
 
--- inputs are init, then the signals
+-- inputs are init, then the bits of the signals
 unfoldable pub inputsOf : Graph → ℕ
-inputsOf g = 1 + length (g .signals)
+inputsOf g = 1 + signalBits g
 
 -- what a judgement answers, and what it leaves
 pub record JudgeEnd : Type 0 where

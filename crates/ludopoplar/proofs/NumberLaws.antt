@@ -5,7 +5,7 @@ use native.Mathlib.Omega.{arith}
 use Rattle.text.specs.declared.Refusal.{Refusal}
 use Rattle.graph.specs.Reading as graph
 use Rattle.graph.specs.declared.Fault.{Fault}
-use Rattle.graph.specs.declared.Fault.the-variants.{WrongShape, WrongOrder, TooMany, NameRepeated, UnknownVertex, NotFormula, TooDeep, UnknownName}
+use Rattle.graph.specs.declared.Fault.the-variants.{WrongShape, WrongOrder, TooMany, NameRepeated, UnknownVertex, NotFormula, TooDeep, UnknownName, WrongWidth}
 use Rattle.graph.specs.declared.Cause.{Cause}
 use Rattle.graph.specs.declared.Cause.the-variants.{TextTooLong, FaultyLine, NoVertex}
 use Rattle.builder.specs.declared.Cause as builder
@@ -43,6 +43,7 @@ fault-numbered UnknownVertex = omega arith
 fault-numbered NotFormula = omega arith
 fault-numbered TooDeep = omega arith
 fault-numbered UnknownName = omega arith
+fault-numbered WrongWidth = omega arith
 
 graph-numbered : (cause : Cause) → 1 ≤ graph.refusalOf cause .number
 unfolding graph.refusalOf

@@ -69,6 +69,10 @@ monitorRows =
     -- `p^q` at 1,1 is 0, and `!p&q` at 0,0 is 0
     ∷ row "S\tp\nS\tq\nV\ta\nE\ta\ta\tt\t1\tp^q\nT\n111\n" "R\t1\nsum\t1\t1\trejected\n"
     ∷ row "S\tp\nS\tq\nV\ta\nE\ta\ta\tt\t1\t!p&q\nT\n100\n" "R\t1\nsum\t1\t1\trejected\n"
+    -- k must be a, and a cycle is rejected where bit 1 of it is 0
+    ∷ row "S\ta\t2\nK\tk\t2\nV\tv\nE\tv\tv\tt\ta==k\tk[1]\nT\n100\n110\n101\n111\n" "R\t1\nR\t2\nsum\t4\t2\trejected\n"
+    -- a wide name where one bit is due
+    ∷ row "S\ta\t2\nV\tv\nE\tv\tv\tt\ta\t1\nT\n100\n" "refused\t19\t3\n"
     -- `10` is no formula
     ∷ row "V\ta\nE\ta\ta\tt\t10\t1\nT\n1\n" "refused\t7\t2\n"
     -- no trace, and one whose second line is wrong
@@ -90,6 +94,12 @@ aigerRows =
     -- `=`, `|`, `^`, `!` and a constant
     ∷ row "S\tp\nK\tk\nV\ta\nE\ta\ta\tt\tp=k|!p\t0^1\n"
     "aag 20 2 3 1 15\n2\n4\n6 6 6\n8 34\n10 41\n40\n12 8 3\n14 10 3\n16 13 3\n18 7 4\n20 19 4\n22 18 5\n24 23 21\n26 1 0\n28 1 0\n30 29 27\n32 25 17\n34 32 30\n36 32 31\n38 25 14\n40 39 37\n"
+    -- three wires compared: three gates for each, 26 to 42, then the two joins
+    ∷ row "S\ta\t3\nS\tb\t3\nV\tv\nE\tv\tv\tt\ta==b\t1\n"
+    "aag 28 7 2 1 19\n2\n4\n6\n8\n10\n12\n14\n16 50\n18 57\n56\n20 16 3\n22 18 3\n24 21 3\n26 10 4\n28 11 5\n30 29 27\n32 12 6\n34 13 7\n36 35 33\n38 14 8\n40 15 9\n42 41 39\n44 37 31\n46 44 43\n48 46 25\n50 48 1\n52 48 0\n54 46 22\n56 55 53\n"
+    -- the bits of a constant
+    ∷ row "K\tk\t2\nV\tv\nE\tv\tv\tt\tk[1]\tk[0]\n"
+    "aag 13 1 4 1 8\n2\n4 4 4\n6 6 6\n8 20\n10 27\n26\n12 8 3\n14 10 3\n16 13 3\n18 17 6\n20 18 4\n22 18 5\n24 14 6\n26 25 23\n"
     -- G with `-` for `t`: with `M terminal` no edge is terminal, and the output is literal 1; without it the edge is, and
     -- the file is G's
     ∷ row "M\tterminal\nS\tp\nS\tq\nV\ta\nV\tb\nE\ta\tb\t-\tp\tq\n"
@@ -100,5 +110,5 @@ aigerRows =
 
 -- both programs print what the table says
 tables-hold : (printed monitorText monitorRows .found ≡ printed monitorText monitorRows .due) × (printed aigerText aigerRows .found ≡ printed aigerText aigerRows .due)
-unfolding numbers.digitsOf numbers.digits classes.classOf classes.strengthOf classes.isLetter classes.isWordClass classes.startOf classes.run classes.nameBytes classes.isName grammar.andThen grammar.nameOf grammar.closed grammar.whole grammar.treeOf grammar.depthOf grammar.operandOf grammar.expressionOf grammar.restOf graph.isTerminal graph.input graph.isInit graph.holds paths.rejectsAlong paths.rejectedUnder paths.isRejected paths.countRejected pieces.onto pieces.split pieces.same pieces.placeOf pieces.lookUp records.moded records.named records.marked records.edged records.ofFields records.recordOf reading.faultNumber reading.refusalOf reading.known reading.joined reading.symbol reading.resolved reading.judgedTree reading.treeExpr reading.lower reading.modeLines reading.addMode reading.addSignal reading.addConstant reading.addVertex reading.edgeOf reading.unlessFaulty reading.judgeEdge reading.addEdge reading.add reading.finished reading.readLines reading.graphOf literals.literalOf literals.variableOf literals.isInverted gates.inv gates.gate monitor.firstEdgeLatch monitor.firstGate monitor.formula monitor.happyOr monitor.condemnedOr monitor.edgePiece monitor.masked monitor.gathered monitor.judged monitor.accepted monitor.gatesOf circuit.numbersOf build.refusalOf build.variablesOf rows.line rows.headerRow rows.literalRow rows.latchRow rows.gateRow format.inputLine format.latchLine format.outputLine format.gateLine format.fileWith format.fileOf traces.isBit traces.fitsLine traces.faultFrom traces.faultOf traces.lineCount traces.cyclesFrom traces.cyclesOf calls.refusalOf run.verdictOf parts.bytesBefore parts.graphPart parts.tracePart lines.field lines.refusedLine lines.rejectedLine lines.verdictField lines.sumLine lines.cycleLine lines.report pages.graphPage judge.inputsOf pages.judgement pages.tracePage pages.monitorText pages.aigerText
+unfolding numbers.digitsOf numbers.digits numbers.isDigit numbers.leadingDigits numbers.valueFrom classes.classOf classes.strengthOf classes.isLetter classes.isWordClass classes.startOf classes.run classes.nameBytes classes.isName grammar.andThen grammar.isIndex grammar.indexOf grammar.rightOf grammar.nameOf grammar.closed grammar.whole grammar.treeOf grammar.depthOf grammar.operandOf grammar.expressionOf grammar.restOf graph.isTerminal graph.bitsOf graph.signalBits graph.constantBits graph.input graph.isInit graph.bitHolds graph.alikeFrom graph.holds paths.rejectsAlong paths.rejectedUnder paths.isRejected paths.countRejected pieces.onto pieces.split pieces.same pieces.placeOf pieces.lookUp pieces.placed pieces.lookUpName records.moded records.numberTo records.widthOf records.sized records.named records.marked records.edged records.ofFields records.recordOf reading.faultNumber reading.refusalOf reading.known reading.fits reading.joined reading.symbol reading.runOf reading.resolved reading.judgedTree reading.treeExpr reading.lower reading.modeLines reading.addMode reading.addSignal reading.addConstant reading.addVertex reading.edgeOf reading.unlessFaulty reading.judgeEdge reading.addEdge reading.add reading.finished reading.readLines reading.graphOf literals.literalOf literals.variableOf literals.isInverted gates.inv gates.gate monitor.firstEdgeLatch monitor.firstGate monitor.bitLiteral monitor.alikeOf monitor.formula monitor.happyOr monitor.condemnedOr monitor.edgePiece monitor.masked monitor.gathered monitor.judged monitor.accepted monitor.gatesOf circuit.numbersOf build.refusalOf build.variablesOf rows.line rows.headerRow rows.literalRow rows.latchRow rows.gateRow format.inputLine format.latchLine format.outputLine format.gateLine format.fileWith format.fileOf traces.isBit traces.fitsLine traces.faultFrom traces.faultOf traces.lineCount traces.cyclesFrom traces.cyclesOf calls.refusalOf run.verdictOf parts.bytesBefore parts.graphPart parts.tracePart lines.field lines.refusedLine lines.rejectedLine lines.verdictField lines.sumLine lines.cycleLine lines.report pages.graphPage judge.inputsOf pages.judgement pages.tracePage pages.monitorText pages.aigerText
 tables-hold = (refl, refl)

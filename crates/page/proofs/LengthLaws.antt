@@ -13,7 +13,7 @@ use Rattle.text.specs.Numbers.{digits}
 use Rattle.text.specs.Writer.{joined}
 use Rattle.text.proofs.NumberLaws.{tens, digits-length}
 use Rattle.assertion.specs.Lists.{any, lists}
-use Rattle.assertion.specs.Graph.{Bytes, Edge, Graph, Cycle, Setting}
+use Rattle.assertion.specs.Graph.{Bytes, Edge, Graph, Cycle, Setting, constantBits}
 use Rattle.assertion.specs.Paths.{sinceInit, rejectsAlong, rejectedUnder, isRejected, verdicts, sum, countRejected}
 use Rattle.graph.specs.declared.Cause as graph
 use Rattle.graph.specs.Reading as reading
@@ -132,7 +132,7 @@ unfolding isRejected
 none-rejected g seen [] k e = refl
 none-rejected g seen (c ∷ cs) zero e =
     ap (λ (b : Bool). cond b 1 0)
-    (any-none (λ σ. rejectedUnder g σ (seen ++ (c ∷ []))) (lists (length (g .constants)) (false ∷ true ∷ [])) (λ σ. no-edge g σ (seen ++ (c ∷ [])) e))
+    (any-none (λ σ. rejectedUnder g σ (seen ++ (c ∷ []))) (lists (constantBits g) (false ∷ true ∷ [])) (λ σ. no-edge g σ (seen ++ (c ∷ [])) e))
 none-rejected g seen (c ∷ cs) (suc k) e = none-rejected g (seen ++ (c ∷ [])) cs k e
 
 pub sum-most : (g : Graph) (seen cs : List Cycle) → sum (verdicts g seen cs) ≤ length cs

@@ -12,18 +12,18 @@ use Rattle.text.specs.declared.Refusal.{Refusal}
 use Rattle.text.specs.Quoted.{bytes}
 use Rattle.formula.specs.Classes.{pick, isName}
 use Rattle.formula.specs.Grammar.{none, andThen, operandOf, expressionOf, whole, treeOf}
-use Rattle.assertion.specs.Graph.{Bytes, Edge, Graph}
+use Rattle.assertion.specs.Graph.{Bytes, Edge, Graph, signalBits, constantBits}
 use Rattle.assertion.specs.declared.Mode.{Mode}
 use Rattle.assertion.specs.declared.Mode.the-variants.{Terminal, Strong}
 use Rattle.graph.specs.declared.Fault.{Fault}
-use Rattle.graph.specs.declared.Fault.the-variants.{WrongShape, WrongOrder, TooMany, NameRepeated, UnknownVertex, NotFormula, TooDeep, UnknownName}
+use Rattle.graph.specs.declared.Fault.the-variants.{WrongShape, WrongOrder, TooMany, NameRepeated, UnknownVertex, NotFormula, TooDeep, UnknownName, WrongWidth}
 use Rattle.graph.specs.declared.Judged.{Judged}
 use Rattle.graph.specs.declared.Judged.the-variants.{Fine, Faulty}
 use Rattle.graph.specs.declared.Cause.{Cause}
 use Rattle.graph.specs.declared.Cause.the-variants.{TextTooLong, FaultyLine, NoVertex}
-use Rattle.graph.specs.Pieces.{onto, split, same, lookUp}
-use Rattle.graph.specs.Records.{Record, shapeless, mode, signal, constant, vertex, edge, moded, named, marked, edged, ofFields, recordOf}
-use Rattle.graph.specs.Reading.{refusalOf, faultNumber, namesOf, judgedTree, judgedFormula, lower, Step, fault, went, modeLines, addMode, addSignal, addConstant, addVertex, edgeOf, unlessFaulty, judgeEdge, addEdge, add, refused, accepted, finished, readLines, nothing, graphOf}
+use Rattle.graph.specs.Pieces.{onto, split, same, lookUp, Declared, lookUpName}
+use Rattle.graph.specs.Records.{Record, shapeless, mode, signal, constant, vertex, edge, moded, widthOf, sized, named, marked, edged, ofFields, recordOf}
+use Rattle.graph.specs.Reading.{refusalOf, faultNumber, namesOf, judgedTree, judgedFormula, lower, Step, fault, went, modeLines, addMode, sizedName, addSignal, addConstant, addVertex, edgeOf, unlessFaulty, judgeEdge, addEdge, add, refused, accepted, finished, readLines, nothing, graphOf}
 
 -- ---- the pieces of a text: their bytes, and one for the byte after each
 total : List Bytes → ℕ
@@ -83,19 +83,19 @@ module _ (g : Graph) (t : ℕ) where
       adds-unless g t (ltb 0 (modeLines (g .mode) + length (g .signals) + length (g .constants) + length (g .vertices) + length (g .edges))) WrongOrder
       (record { mode = m; signals = g .signals; constants = g .constants; vertices = g .vertices; edges = g .edges }) same-size
 
-  signal-adds : (n : Bytes) → Adds g t (addSignal g n)
+  signal-adds : (n : Bytes) (w : ℕ) → Adds g t (addSignal g n w)
   unfolding addSignal size
-  signal-adds n =
-      adds-tested g t (ltb 0 (length (g .constants) + length (g .vertices) + length (g .edges))) (leb 63 (length (g .signals))) (lookUp n (namesOf g) .known)
+  signal-adds n w =
+      adds-tested g t (ltb 0 (length (g .constants) + length (g .vertices) + length (g .edges))) (ltb 63 (signalBits g + w)) (lookUpName n (namesOf g) .known)
       WrongOrder TooMany NameRepeated
-      (record { mode = g .mode; signals = g .signals ++ (n ∷ []); constants = g .constants; vertices = g .vertices; edges = g .edges }) same-size
+      (record { mode = g .mode; signals = g .signals ++ (sizedName n w ∷ []); constants = g .constants; vertices = g .vertices; edges = g .edges }) same-size
 
-  constant-adds : (n : Bytes) → Adds g t (addConstant g n)
+  constant-adds : (n : Bytes) (w : ℕ) → Adds g t (addConstant g n w)
   unfolding addConstant size
-  constant-adds n =
-      adds-tested g t (ltb 0 (length (g .vertices) + length (g .edges))) (leb 6 (length (g .constants))) (lookUp n (namesOf g) .known)
+  constant-adds n w =
+      adds-tested g t (ltb 0 (length (g .vertices) + length (g .edges))) (ltb 6 (constantBits g + w)) (lookUpName n (namesOf g) .known)
       WrongOrder TooMany NameRepeated
-      (record { mode = g .mode; signals = g .signals; constants = g .constants ++ (n ∷ []); vertices = g .vertices; edges = g .edges }) same-size
+      (record { mode = g .mode; signals = g .signals; constants = g .constants ++ (sizedName n w ∷ []); vertices = g .vertices; edges = g .edges }) same-size
 
   vertex-adds : (n : Bytes) → 4 ≤ t → Adds g t (addVertex g n)
   unfolding addVertex size
@@ -106,7 +106,7 @@ module _ (g : Graph) (t : ℕ) where
       (record { mode = g .mode; signals = g .signals; constants = g .constants; vertices = g .vertices ++ (n ∷ []); edges = g .edges }) l
 
   -- an edge that was taken has two formulas, and none is empty
-  fine-some : (ns : List Bytes) (s : Bytes) → judgedFormula ns s ≡ Fine → 1 ≤ length s
+  fine-some : (ns : List Declared) (s : Bytes) → judgedFormula ns s ≡ Fine → 1 ≤ length s
   unfolding judgedTree treeOf whole expressionOf operandOf andThen
   fine-some ns [] e = let z : _≡_ {A = ℕ} 0 1 = cc in absurd (omega arith)
   fine-some ns (b ∷ s) e = omega arith
@@ -177,18 +177,26 @@ module _ (g : Graph) where
       go false true = mode-adds g t Strong
       go false false = shapeless-adds t
 
+  sized-adds : (t : ℕ) (k n : Bytes) (w : ℕ) → AddsRecord t (sized k n w)
+  unfolding sized add
+  sized-adds t k n w = go (isName n) (eqb w 0) (same k (83 ∷ [])) (same k (75 ∷ []))
+    where
+      go : (a z b c : Bool) → AddsRecord t (pick a (pick z shapeless (pick b (signal n w) (pick c (constant n w) shapeless))) shapeless)
+      go false z b c = shapeless-adds t
+      go true true b c = shapeless-adds t
+      go true false true c = signal-adds g t n w
+      go true false false true = constant-adds g t n w
+      go true false false false = shapeless-adds t
+
   named-adds : (k n : Bytes) → AddsRecord (two k n) (named k n)
   unfolding named add
-  named-adds k n = go (same k (77 ∷ [])) (isName n) refl (same k (83 ∷ [])) (same k (75 ∷ [])) (same k (86 ∷ [])) refl
+  named-adds k n = go (same k (77 ∷ [])) (same k (86 ∷ [])) refl (isName n) refl
     where
-      go : (m a : Bool) → isName n ≡ a → (b c d : Bool) → same k (86 ∷ []) ≡ d
-          → AddsRecord (two k n) (pick m (moded n) (pick a (pick b (signal n) (pick c (constant n) (pick d (vertex n) shapeless))) shapeless))
-      go true a p b c d q = moded-adds (two k n) n
-      go false false p b c d q = shapeless-adds (two k n)
-      go false true p true c d q = signal-adds g (two k n) n
-      go false true p false true d q = constant-adds g (two k n) n
-      go false true p false false true q = vertex-adds g (two k n) n (omega (arith, one-byte k 86 q, name-some n p))
-      go false true p false false false q = shapeless-adds (two k n)
+      go : (m d : Bool) → same k (86 ∷ []) ≡ d → (a : Bool) → isName n ≡ a → AddsRecord (two k n) (pick m (moded n) (pick d (pick a (vertex n) shapeless) (sized k n 1)))
+      go true d q a p = moded-adds (two k n) n
+      go false true q true p = vertex-adds g (two k n) n (omega (arith, one-byte k 86 q, name-some n p))
+      go false true q false p = shapeless-adds (two k n)
+      go false false q a p = sized-adds (two k n) k n 1
 
   abbrev six : Bytes → Bytes → Bytes → Bytes → Bytes → Bytes → ℕ
   six k f v m a c = length k + 1 + (length f + 1 + (length v + 1 + (length m + 1 + two a c)))
@@ -215,7 +223,7 @@ module _ (g : Graph) where
   fields-add [] = shapeless-adds _
   fields-add (k ∷ []) = shapeless-adds _
   fields-add (k ∷ n ∷ []) = named-adds k n
-  fields-add (k ∷ f ∷ v ∷ []) = shapeless-adds _
+  fields-add (k ∷ n ∷ w ∷ []) = sized-adds _ k n (widthOf w)
   fields-add (k ∷ f ∷ v ∷ m ∷ []) = shapeless-adds _
   fields-add (k ∷ f ∷ v ∷ m ∷ a ∷ []) = shapeless-adds _
   fields-add (k ∷ f ∷ v ∷ m ∷ a ∷ c ∷ []) = edged-adds k f v m a c
@@ -324,4 +332,5 @@ graph-number (FaultyLine f n) = go f
     go NotFormula = omega arith
     go TooDeep = omega arith
     go UnknownName = omega arith
+    go WrongWidth = omega arith
 graph-number NoVertex = omega arith

@@ -191,7 +191,7 @@ fn cases(input: &[u8]) {
 }
 
 fn main() {
-    let mut input = [0u8; 131072];
+    let mut input = [0u8; 196608];
     let n = io::read_full(STDIN, &mut input);
     cases(&input[..n]);
     largest::write_largest();

@@ -12,7 +12,7 @@ use lib.ListN.{length, getD, take, drop, length-append, List·getD-eq-default}
 use lib.Seq.{take-suc, take-all}
 use Rattle.text.proofs.NumberLaws.{and-both}
 use Rattle.formula.specs.declared.Class.{Class}
-use Rattle.formula.specs.declared.Class.the-variants.{Other, Letter, Digit, Underscore, Operator, Opening, Closing, Tab, Lf}
+use Rattle.formula.specs.declared.Class.the-variants.{Other, Letter, Digit, Underscore, Operator, Opening, Closing, OpeningSquare, ClosingSquare, Tab, Lf}
 use Rattle.formula.specs.Classes.{pick, within, classOf, isWordClass, inName, run, nameBytes}
 use Rattle.formula.proofs.NameLaws.{all-run}
 use Rattle.trace.specs.Verdicts.{allBits}
@@ -72,8 +72,10 @@ otherClass b =
     (pick (eqb b 61) Operator
     (pick (eqb b 40) Opening
     (pick (eqb b 41) Closing
+    (pick (eqb b 91) OpeningSquare
+    (pick (eqb b 93) ClosingSquare
     (pick (eqb b 9) Tab
-    (pick (eqb b 10) Lf Other))))))))
+    (pick (eqb b 10) Lf Other))))))))))
 
 other-is : (b : ℕ) → isWordClass (otherClass b) ≡ false
 unfolding isWordClass
@@ -85,8 +87,10 @@ other-is b =
     (pick-other (eqb b 61) Operator _ refl
     (pick-other (eqb b 40) Opening _ refl
     (pick-other (eqb b 41) Closing _ refl
+    (pick-other (eqb b 91) OpeningSquare _ refl
+    (pick-other (eqb b 93) ClosingSquare _ refl
     (pick-other (eqb b 9) Tab _ refl
-    (pick-other (eqb b 10) Lf Other refl refl))))))))
+    (pick-other (eqb b 10) Lf Other refl refl))))))))))
 
 word-told : (b : ℕ) → inName b ≡ true → WordByte b
 unfolding classOf isWordClass

@@ -94,5 +94,5 @@ abbrev printed : Printed
 printed = record { found = map (λ r. sheetText (r .input)) rows; due = map (λ r. r .page) rows }
 
 rows-hold : printed .found ≡ printed .due
-unfolding numbers.digitsOf numbers.digits classes.classOf classes.strengthOf classes.isLetter classes.isWordClass classes.startOf classes.run classes.nameBytes classes.isName grammar.andThen grammar.nameOf grammar.closed grammar.whole grammar.treeOf grammar.depthOf grammar.operandOf grammar.expressionOf grammar.restOf graph.isTerminal graph.input graph.isInit graph.holds paths.rejectsAlong paths.rejectedUnder paths.isRejected pieces.onto pieces.split pieces.same pieces.placeOf pieces.lookUp records.moded records.named records.marked records.edged records.ofFields records.recordOf reading.faultNumber reading.refusalOf reading.known reading.joined reading.symbol reading.resolved reading.judgedTree reading.treeExpr reading.lower reading.modeLines reading.addMode reading.addSignal reading.addConstant reading.addVertex reading.edgeOf reading.unlessFaulty reading.judgeEdge reading.addEdge reading.add reading.finished reading.readLines reading.graphOf literals.literalOf literals.variableOf literals.isInverted gates.inv gates.gate monitor.firstEdgeLatch monitor.firstGate monitor.formula monitor.happyOr monitor.condemnedOr monitor.edgePiece monitor.masked monitor.gathered monitor.judged monitor.accepted monitor.gatesOf build.refusalOf build.variablesOf traces.isBit traces.fitsLine traces.faultFrom traces.faultOf traces.lineCount traces.cyclesFrom traces.cyclesOf calls.refusalOf parts.bytesBefore parts.graphPart parts.tracePart lines.field lines.refusedLine pages.graphPage judge.inputsOf rates.hasNoRate rates.perMillion rates.rateOf fields.left fields.right fields.row session.rejectedFrom session.title session.cell session.cellLine session.cellLines session.rateFields session.lastLine session.sessionPage names.isGraphName newline.toLf sheets.inputRefusal sheets.hasName sheets.traceSheet sheets.sheetText
+unfolding numbers.digitsOf numbers.digits numbers.isDigit numbers.leadingDigits numbers.valueFrom classes.classOf classes.strengthOf classes.isLetter classes.isWordClass classes.startOf classes.run classes.nameBytes classes.isName grammar.andThen grammar.isIndex grammar.indexOf grammar.rightOf grammar.nameOf grammar.closed grammar.whole grammar.treeOf grammar.depthOf grammar.operandOf grammar.expressionOf grammar.restOf graph.isTerminal graph.bitsOf graph.signalBits graph.constantBits graph.input graph.isInit graph.bitHolds graph.alikeFrom graph.holds paths.rejectsAlong paths.rejectedUnder paths.isRejected pieces.onto pieces.split pieces.same pieces.placeOf pieces.lookUp pieces.placed pieces.lookUpName records.moded records.numberTo records.widthOf records.sized records.named records.marked records.edged records.ofFields records.recordOf reading.faultNumber reading.refusalOf reading.known reading.fits reading.joined reading.symbol reading.runOf reading.resolved reading.judgedTree reading.treeExpr reading.lower reading.modeLines reading.addMode reading.addSignal reading.addConstant reading.addVertex reading.edgeOf reading.unlessFaulty reading.judgeEdge reading.addEdge reading.add reading.finished reading.readLines reading.graphOf literals.literalOf literals.variableOf literals.isInverted gates.inv gates.gate monitor.firstEdgeLatch monitor.firstGate monitor.bitLiteral monitor.alikeOf monitor.formula monitor.happyOr monitor.condemnedOr monitor.edgePiece monitor.masked monitor.gathered monitor.judged monitor.accepted monitor.gatesOf build.refusalOf build.variablesOf traces.isBit traces.fitsLine traces.faultFrom traces.faultOf traces.lineCount traces.cyclesFrom traces.cyclesOf calls.refusalOf parts.bytesBefore parts.graphPart parts.tracePart lines.field lines.refusedLine pages.graphPage judge.inputsOf rates.hasNoRate rates.perMillion rates.rateOf fields.left fields.right fields.row session.rejectedFrom session.title session.cell session.cellLine session.cellLines session.rateFields session.lastLine session.sessionPage names.isGraphName newline.toLf sheets.inputRefusal sheets.hasName sheets.traceSheet sheets.sheetText
 rows-hold = refl

@@ -12,7 +12,7 @@ use Rattle.text.specs.Quoted.{bytes}
 use Rattle.text.specs.declared.Refusal.{Refusal}
 use Rattle.text.specs.Numbers.{digits, digitsOf}
 use Rattle.text.specs.Writer.{joined}
-use Rattle.assertion.specs.Graph.{Bytes, Graph}
+use Rattle.assertion.specs.Graph.{Bytes, Graph, signalBits}
 use Rattle.assertion.specs.Paths.{verdicts, PathsMean}
 use Rattle.assertion.proofs.PathLaws.{paths-mean}
 use Rattle.graph.specs.declared.Cause.{Cause}
@@ -114,9 +114,9 @@ rest-judged : (name rest : Bytes) (g : Graph) → graphOf (graphPart rest) ≡ a
 unfolding graphPage traceSheet
 rest-judged name rest g read small right = rw (read, le-leb (variablesOf g) 4095 small, right)
 
-few-judged : (g : Graph) (trace : Bytes) → length trace ≤ 65536 → length (verdicts g [] (cyclesOf (1 + length (g .signals)) trace)) ≤ 524288
+few-judged : (g : Graph) (trace : Bytes) → length trace ≤ 65536 → length (verdicts g [] (cyclesOf (1 + signalBits g) trace)) ≤ 524288
 unfolding inputsOf
-few-judged g trace short = omega (arith, verdicts-length g [] (cyclesOf (1 + length (g .signals)) trace), cycles-most g trace)
+few-judged g trace short = omega (arith, verdicts-length g [] (cyclesOf (1 + signalBits g) trace), cycles-most g trace)
 
 -- ---- the line of a refusal
 refused-text : (r : Refusal) → RefusedText (r .number) (r .line) (refusedLine r)
@@ -163,8 +163,8 @@ module _ (input : Bytes) (Prints : List ℕ → Type 0) (printed : Prints (sheet
     of-trace : (g : Graph) → graphOf (graphPart rest) ≡ accepted g → variablesOf g ≤ 4095 → (k : ℕ) → faultOf (inputsOf g) (tracePart rest) ≡ k → SheetMeans input Prints
     unfolding inputsOf
     of-trace g read small zero e =
-        let lines = trace-means (1 + length (g .signals)) (tracePart rest) .whole e in
-        let cycles = cyclesOf (1 + length (g .signals)) (tracePart rest) in
+        let lines = trace-means (1 + signalBits g) (tracePart rest) .whole e in
+        let cycles = cyclesOf (1 + signalBits g) (tracePart rest) in
         let judged = verdicts g [] cycles in
         let few = few-judged g (tracePart rest) (trace-any rest (omega (arith, n .short, rest-shorter n))) in
         sheet name rest (graphPart rest) (tracePart rest) g cycles
@@ -178,7 +178,7 @@ module _ (input : Bytes) (Prints : List ℕ → Type 0) (printed : Prints (sheet
         n (parts-are rest) read small (lines .0) (lines .1)
     of-trace g read small (suc k) e =
         wrong-line name rest (graphPart rest) (tracePart rest) g k (refusal (record { number = 15; line = suc k }) (rest-wrong name rest g read small k e)) n (parts-are rest)
-        read small (trace-means (1 + length (g .signals)) (tracePart rest) .first k e)
+        read small (trace-means (1 + signalBits g) (tracePart rest) .first k e)
 
     of-size : (g : Graph) → graphOf (graphPart rest) ≡ accepted g → Dec (variablesOf g ≤ 4095) → SheetMeans input Prints
     of-size g read (yes small) = of-trace g read small (faultOf (inputsOf g) (tracePart rest)) refl

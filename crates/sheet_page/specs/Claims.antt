@@ -8,7 +8,7 @@ use Prim.Native.String as string
 use Prim.Native.String.{String}
 use lib.ListN.{length, drop}
 use Rattle.text.specs.declared.Refusal.{Refusal}
-use Rattle.assertion.specs.Graph.{Graph}
+use Rattle.assertion.specs.Graph.{Graph, signalBits}
 use Rattle.assertion.specs.Paths.{verdicts}
 use Rattle.graph.specs.declared.Cause.{Cause}
 use Rattle.graph.specs.Reading as reading
@@ -81,12 +81,12 @@ pub data SheetMeans (input : List ℕ) (Prints : List ℕ → Type 0) : Type 0 w
   -- for the first wrong line of its trace, counted from 1 after `T`
   wrong-line : (name rest graph trace : List ℕ) (g : Graph) (k : ℕ) → PrintsRefusal 15 (suc k) Prints
       → Named input name rest → Parts rest graph trace → graphOf graph ≡ accepted g → variablesOf g ≤ 4095
-      → FirstWrong (1 + length (g .signals)) k trace
+      → FirstWrong (1 + signalBits g) k trace
       → SheetMeans input Prints
   -- every other input has its sheet, of the cycles that some setting and some rejecting path condemn
   sheet : (name rest graph trace : List ℕ) (g : Graph) (cycles : List (List ℕ)) → PrintsSheet name (verdicts g [] cycles) Prints
       → Named input name rest → Parts rest graph trace → graphOf graph ≡ accepted g → variablesOf g ≤ 4095
-      → trace ≡ linesOf cycles → Cycles (1 + length (g .signals)) cycles
+      → trace ≡ linesOf cycles → Cycles (1 + signalBits g) cycles
       → SheetMeans input Prints
 
 -- what the monitor program refuses of the rest is refused alike, its lines counted from there

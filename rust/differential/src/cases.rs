@@ -6,7 +6,7 @@ use crate::compare::{Call, Lengths, Memory, Mismatch, Name};
 use crate::random::Random;
 use crate::round_trip::write_and_read_back;
 use crate::{aigers, graphs, netlists, pages, rates, sequence, sessions, traces};
-use reference::{formula_of_gates, Graph, Netlist, Tally};
+use reference::{formula_of_gates, Edge, Graph, Netlist, Tally};
 
 /// The session and then the page are drawn last, so that the others' draws do not depend on
 /// them.
@@ -54,7 +54,8 @@ fn build(bench: &mut Bench) -> Result<(), Mismatch> {
 /// above 10 × edges + 3 × operators"; here without the operator `!`.
 fn check_gates(text: &[u8], gates: u64) -> Result<(), Mismatch> {
     let graph = Graph::parse(text).expect("an accepted graph");
-    let operators = text.iter().filter(|byte| b"&|^=".contains(byte)).count();
+    let of_edge = |edge: &Edge| edge.antecedent.operators() + edge.consequent.operators();
+    let operators: usize = graph.edges.iter().map(of_edge).sum();
     let bound = 10 * graph.edges.len() + 3 * operators;
     let due = formula_of_gates(&graph);
     if gates == due as u64 && due <= bound {

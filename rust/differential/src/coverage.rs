@@ -1,13 +1,15 @@
 //! How often each call was accepted, and refused with each number; and of the graphs how
-//! often each rule chose their terminal edges.
+//! often each rule chose their terminal edges, and what they have of names wider than a bit.
 
 use crate::compare::{Name, Outcome};
+use crate::kinds::Kinds;
+use reference::{Edge, Graph, Operand};
 use std::collections::BTreeMap;
 use std::fmt;
 
 /// Every number each call can be refused with; `BrokenLine` never is.
 const REFUSALS: [(Name, &[u32]); 9] = [
-    (Name::Build, &[1, 2, 3, 4, 5, 6, 7, 8, 9, 10, 11, 12]),
+    (Name::Build, &[1, 2, 3, 4, 5, 6, 7, 8, 9, 10, 11, 12, 19]),
     (Name::Read, &[1, 12, 13, 14]),
     (Name::Write, &[12, 16]),
     (Name::Start, &[12, 16]),
@@ -30,9 +32,14 @@ pub struct Coverage {
     graphs: BTreeMap<(&'static str, &'static str), u64>,
     /// The graphs refused at a line whose first field is `M`, by number.
     mode_refused: BTreeMap<u32, u64>,
-    /// Cycles judged by their paths, and those rejected by one.
-    pub path_cycles: u64,
-    pub path_rejected: u64,
+    /// All graphs, by widths, bits and comparisons.
+    kinds: Kinds,
+    /// Cycles judged by their paths, and those rejected by one; and of them those of graphs
+    /// that compare names of several bits.
+    path_cycles: u64,
+    path_rejected: u64,
+    compared_cycles: u64,
+    compared_rejected: u64,
     /// Netlists written and read back.
     pub read_back: u64,
     /// Of the sessions that are good, those whose flywheel's or handle's line was handed
@@ -60,6 +67,18 @@ impl Coverage {
             *self.graphs.entry(graph).or_default() += 1;
         } else if line > 0 && first_field(lines[line - 1]) == b"M" {
             *self.mode_refused.entry(outcome.number).or_default() += 1;
+        }
+        self.kinds.record(text, outcome);
+    }
+
+    /// Counts the cycles that were judged by the paths of a graph, and those rejected.
+    pub fn record_paths(&mut self, graph: &Graph, cycles: usize, rejected: usize) {
+        let (cycles, rejected) = (cycles as u64, rejected as u64);
+        self.path_cycles += cycles;
+        self.path_rejected += rejected;
+        if graph.edges.iter().any(compares_wide_names) {
+            self.compared_cycles += cycles;
+            self.compared_rejected += rejected;
         }
     }
 
@@ -118,8 +137,12 @@ impl Coverage {
                 gaps.push(format!("{number} at an M line"));
             }
         }
+        gaps.extend(self.kinds.gaps());
         if self.path_rejected == 0 || self.path_rejected == self.path_cycles {
             gaps.push("paths".into());
+        }
+        if self.compared_rejected == 0 || self.compared_rejected == self.compared_cycles {
+            gaps.push("paths with wide names compared".into());
         }
         if [self.flywheel_lines, self.handle_lines, self.no_lines].contains(&0) {
             gaps.push("lines handed back".into());
@@ -129,6 +152,12 @@ impl Coverage {
         }
         gaps
     }
+}
+
+fn compares_wide_names(edge: &Edge) -> bool {
+    let operands = [edge.antecedent.operands(), edge.consequent.operands()].concat();
+    let is_wide = |operand: &Operand| matches!(operand, Operand::Equal(left, _) if left.width > 1);
+    operands.iter().any(is_wide)
 }
 
 /// Of an accepted graph's lines.
@@ -179,6 +208,7 @@ impl fmt::Display for Coverage {
             self.mode_refused(2),
             self.mode_refused(3)
         )?;
+        writeln!(f, "{}", self.kinds)?;
         writeln!(
             f,
             "lines handed back: {} of the flywheel, {} of the handle, {} empty",
@@ -192,8 +222,8 @@ impl fmt::Display for Coverage {
         writeln!(f, "read(write(net)): {} netlists", self.read_back)?;
         write!(
             f,
-            "paths: {} cycles, {} of them rejected",
-            self.path_cycles, self.path_rejected
+            "paths: {} cycles, {} of them rejected; with wide names compared {}, {}",
+            self.path_cycles, self.path_rejected, self.compared_cycles, self.compared_rejected
         )
     }
 }

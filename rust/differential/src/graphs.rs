@@ -4,13 +4,20 @@
 //! quarter `strong`; and under each of the three, in every third graph no edge is marked, in
 //! others a few, about half, or all. Damaged texts have `M` lines on any line: good ones on
 //! another line than the first, also after one, and wrong ones as `WRONG_MODES` lists them.
+//!
+//! For No. 3: half of the graphs have names of several bits, many of them of one width, and
+//! formulas with single bits and comparisons; the bits of all names are at their limits or
+//! one over where the other counts are. In damaged texts a name has another width than its
+//! formulas take it for, or a wrong one (`WRONG_WIDTHS`), and formulas have bits beyond the
+//! width, wide names where one bit is due, and terms of wrong form (`WRONG_TERMS`).
 
 use crate::damage::{change_fields, damage};
 use crate::random::Random;
 use reference::{formula_of_gates, Graph};
 
 const MAX_GRAPH_BYTES: usize = 32_768;
-const MEANINGFUL: &[u8] = b"MSKVEt-\t\n\r01abpq_!&^|=() \0\xff";
+const MAX_WIDTH: usize = 16;
+const MEANINGFUL: &[u8] = b"MSKVEt-\t\n\r012367abpq_!&^|=()[] \0\xff";
 pub const MODES: [&str; 2] = ["M\tterminal\n", "M\tstrong\n"];
 /// Another word, none, an empty one, a field too many, lower and upper case, bytes too few
 /// or too many, another separator.
@@ -37,6 +44,81 @@ pub const WRONG_MODES: [&str; 20] = [
     "M\tterminal\r\n",
 ];
 
+/// Out of range, with a leading zero, a sign or another byte, of fields too many, or good if
+/// cut to 8, 16, 32 or 64 bits.
+pub const WRONG_WIDTHS: [&str; 29] = [
+    "",
+    "0",
+    "00",
+    "01",
+    "016",
+    "17",
+    "18",
+    "20",
+    "99",
+    "100",
+    "256",
+    "257",
+    "272",
+    "65537",
+    "65552",
+    "4294967298",
+    "18446744073709551617",
+    "18446744073709551632",
+    "340282366920938463463374607431768211457",
+    "+1",
+    "-1",
+    "1 ",
+    " 1",
+    "1\r",
+    "x",
+    "a",
+    "1\t",
+    "\t1",
+    "1\t1",
+];
+/// Of wrong form; `a` and `b` stand for names.
+pub const WRONG_TERMS: [&str; 38] = [
+    "a[]",
+    "a[",
+    "a]",
+    "a[0",
+    "a0]",
+    "[0]",
+    "a[00]",
+    "a[01]",
+    "a[0a]",
+    "a[1_]",
+    "a[b]",
+    "a[+0]",
+    "a[-1]",
+    "a[ 0]",
+    "a[0 ]",
+    "a [0]",
+    "a[0][0]",
+    "a[[0]]",
+    "a[(0)]",
+    "a(0)",
+    "a[0)",
+    "a(0]",
+    "a[0]b",
+    "1[0]",
+    "(a)[0]",
+    "a[0]==b",
+    "a==b[0]",
+    "(a)==b",
+    "a==(b)",
+    "a==!b",
+    "a==1",
+    "0==a",
+    "a==b==a",
+    "a===b",
+    "a==",
+    "==a",
+    "a= =b",
+    "(a==b)[0]",
+];
+
 /// A graph text of any kind.
 pub fn any(random: &mut Random) -> Vec<u8> {
     if random.once_in(200) {
@@ -45,15 +127,19 @@ pub fn any(random: &mut Random) -> Vec<u8> {
     if random.once_in(100) {
         return near_variable_limit(random);
     }
+    if random.once_in(300) {
+        return past_sixteen_bits(random);
+    }
     if random.once_in(100) {
         return without_vertices(random);
     }
     let mut text = undamaged(random);
     if random.coin() {
         for _ in 0..random.within(1..=3) {
-            match random.below(7) {
+            match random.below(9) {
                 0 | 1 => damage(random, &mut text, MEANINGFUL),
                 2 => change_mode(random, &mut text),
+                3 => change_width(random, &mut text),
                 _ => change_record(random, &mut text),
             }
         }
@@ -95,10 +181,13 @@ fn marks(random: &mut Random) -> &'static [&'static str] {
     }
 }
 
-/// How many records of each kind, and how heavy the formulas are.
+/// How many bits and records of each kind, and how heavy the formulas are.
 struct Plan {
+    /// The bits of all signals, and of all constants.
     signals: usize,
     constants: usize,
+    /// The most bits of one name.
+    widest: usize,
     vertices: usize,
     edges: usize,
     /// The most operators in one formula.
@@ -109,8 +198,9 @@ struct Plan {
 impl Plan {
     fn small(random: &mut Random) -> Plan {
         Plan {
-            signals: random.within(0..=3),
-            constants: random.within(0..=2),
+            signals: random.within(0..=6),
+            constants: random.within(0..=4),
+            widest: random.pick(&[1, 1, 2, 3]),
             vertices: random.within(1..=3),
             edges: random.within(0..=6),
             operators: random.within(0..=3),
@@ -120,8 +210,9 @@ impl Plan {
 
     fn medium(random: &mut Random) -> Plan {
         Plan {
-            signals: random.within(0..=12),
+            signals: random.within(0..=24),
             constants: random.within(0..=6),
+            widest: random.pick(&[1, 1, 4, 9]),
             vertices: random.within(1..=12),
             edges: random.within(0..=30),
             operators: random.within(0..=8),
@@ -133,6 +224,7 @@ impl Plan {
         Plan {
             signals: random.within(0..=63),
             constants: random.within(0..=6),
+            widest: random.pick(&[1, 1, 8, MAX_WIDTH]),
             vertices: random.within(1..=64),
             edges: random.within(0..=128),
             operators: random.pick(&[0, 1, 4, 12, 40, 90]),
@@ -147,27 +239,36 @@ impl Plan {
             4 => limit + usize::from(random.once_in(2)),
             _ => random.within(low..=limit),
         };
+        let (signals, constants) = (count(0, 63), count(0, 6));
+        let (vertices, edges) = (count(1, 64), count(0, 128));
         Plan {
-            signals: count(0, 63),
-            constants: count(0, 6),
-            vertices: count(1, 64),
-            edges: count(0, 128),
+            signals,
+            constants,
+            widest: random.pick(&[1, 1, 6, MAX_WIDTH]),
+            vertices,
+            edges,
             operators: 1,
             long_names: false,
         }
     }
 
     fn text(&self, random: &mut Random) -> Vec<u8> {
-        let mut atoms = names(random, self.signals + self.constants, self.long_names);
+        let mut widths = widths(random, self.signals, self.widest);
+        let signals = widths.len();
+        widths.extend(self::widths(random, self.constants, self.widest));
+        let mut atoms = names(random, widths.len(), self.long_names);
         let mut vertices = names(random, self.vertices, self.long_names);
         if random.once_in(40) {
             repeat_one(random, &mut atoms);
             repeat_one(random, &mut vertices);
         }
+        let atoms: Vec<Named> = (atoms.into_iter().zip(widths))
+            .map(|(name, width)| Named { name, width })
+            .collect();
         let mut text = String::from(mode(random));
-        for (index, name) in atoms.iter().enumerate() {
-            let kind = if index < self.signals { 'S' } else { 'K' };
-            text += &format!("{kind}\t{name}\n");
+        for (index, atom) in atoms.iter().enumerate() {
+            let kind = if index < signals { 'S' } else { 'K' };
+            text += &format!("{kind}\t{}{}\n", atom.name, width_field(random, atom.width));
         }
         for name in &vertices {
             text += &format!("V\t{name}\n");
@@ -183,7 +284,7 @@ impl Plan {
     fn edge(
         &self,
         random: &mut Random,
-        atoms: &[String],
+        atoms: &[Named],
         vertices: &[String],
         mark: &str,
     ) -> String {
@@ -196,6 +297,36 @@ impl Plan {
         };
         let (antecedent, consequent) = (field("1"), field("0"));
         format!("E\t{from}\t{to}\t{mark}\t{antecedent}\t{consequent}\n")
+    }
+}
+
+/// A signal or a constant.
+struct Named {
+    name: String,
+    width: usize,
+}
+
+/// Widths of so many bits together, at most `widest` each; half of them are one width, so
+/// that there are names to compare.
+fn widths(random: &mut Random, bits: usize, widest: usize) -> Vec<usize> {
+    let usual = random.within(1..=widest);
+    let (mut widths, mut left) = (Vec::new(), bits);
+    while left > 0 {
+        let width = match random.coin() {
+            true => usual,
+            false => random.within(1..=widest),
+        };
+        widths.push(width.min(left));
+        left -= width.min(left);
+    }
+    widths
+}
+
+/// "Absent means 1."
+fn width_field(random: &mut Random, width: usize) -> String {
+    match width == 1 && !random.once_in(8) {
+        true => String::new(),
+        false => format!("\t{width}"),
     }
 }
 
@@ -231,7 +362,7 @@ fn repeat_one(random: &mut Random, names: &mut [String]) {
 }
 
 /// A formula with at most so many operators, nearly always of the right form.
-fn formula(random: &mut Random, atoms: &[String], operators: usize) -> String {
+fn formula(random: &mut Random, atoms: &[Named], operators: usize) -> String {
     let operators = random.within(0..=operators);
     let depth = if random.once_in(2_000) { 17 } else { 16 };
     let text = operand(random, atoms, operators, depth);
@@ -242,7 +373,7 @@ fn formula(random: &mut Random, atoms: &[String], operators: usize) -> String {
 }
 
 /// With `room` levels of `(` and `!` left.
-fn operand(random: &mut Random, atoms: &[String], operators: usize, room: usize) -> String {
+fn operand(random: &mut Random, atoms: &[Named], operators: usize, room: usize) -> String {
     if room > 0 && random.once_in(5) {
         let inner = operand(random, atoms, operators, room - 1);
         // A `!` stands over the first operand only, but no level is lost by that.
@@ -261,11 +392,48 @@ fn operand(random: &mut Random, atoms: &[String], operators: usize, room: usize)
     format!("{left}{operator}{right}")
 }
 
-fn leaf(random: &mut Random, atoms: &[String]) -> String {
+/// A name, one bit of it, or it and a name of its width.
+fn leaf(random: &mut Random, atoms: &[Named]) -> String {
     if atoms.is_empty() || random.once_in(12) {
         return random.pick(&["0", "1"]).to_string();
     }
-    atoms[random.below(atoms.len())].clone()
+    let Named { name, width } = &atoms[random.below(atoms.len())];
+    let comparison_rarity = if *width > 1 { 3 } else { 16 };
+    if random.once_in(comparison_rarity) {
+        let alike: Vec<&Named> = atoms.iter().filter(|atom| atom.width == *width).collect();
+        return format!("{name}=={}", random.pick(&alike).name);
+    }
+    match *width == 1 && !random.once_in(8) {
+        true => name.clone(),
+        false => format!("{name}[{}]", random.below(*width)),
+    }
+}
+
+/// Gives one signal or constant another width, right or wrong, or none; now and then a vertex.
+fn change_width(random: &mut Random, text: &mut Vec<u8>) {
+    let kinds = if random.once_in(8) { "V" } else { "SK" };
+    let mut lines: Vec<Vec<u8>> = text
+        .split_inclusive(|byte| *byte == b'\n')
+        .map(<[u8]>::to_vec)
+        .collect();
+    let named: Vec<usize> = (0..lines.len())
+        .filter(|line| lines[*line].len() > 2 && kinds.as_bytes().contains(&lines[*line][0]))
+        .collect();
+    if named.is_empty() {
+        return;
+    }
+    let line = &mut lines[random.pick(&named)];
+    let fields: Vec<&[u8]> = line[..line.len() - 1]
+        .split(|byte| *byte == b'\t')
+        .collect();
+    let bare = fields[..fields.len().min(2)].join(&b'\t');
+    let width = match random.below(4) {
+        0 => String::new(),
+        1 => format!("\t{}", random.pick(&WRONG_WIDTHS)),
+        _ => format!("\t{}", random.within(1..=MAX_WIDTH + 1)),
+    };
+    *line = [&bare, width.as_bytes(), b"\n"].concat();
+    *text = lines.concat();
 }
 
 /// Puts an `M` line in: half of them good, which then is 3 but on line 1; on line 1, where
@@ -298,14 +466,27 @@ fn change_mode(random: &mut Random, text: &mut Vec<u8>) {
 /// Changes one record's fields in ways that its shape or meaning may not bear;
 /// with two faults in one line the lower number must decide.
 fn change_record(random: &mut Random, text: &mut Vec<u8>) {
+    let names = names_in(text);
     change_fields(random, text, b'\t', |random, fields| {
         for _ in 0..random.within(1..=2) {
-            change_field(random, fields);
+            change_field(random, fields, &names);
         }
     });
 }
 
-fn change_field(random: &mut Random, fields: &mut Vec<Vec<u8>>) {
+/// The names of a text's signals and constants.
+fn names_in(text: &[u8]) -> Vec<String> {
+    let text = String::from_utf8_lossy(text);
+    let fields = text.lines().map(|line| line.split('\t'));
+    fields
+        .filter_map(|mut fields| match fields.next() {
+            Some("S" | "K") => fields.next().map(String::from),
+            _ => None,
+        })
+        .collect()
+}
+
+fn change_field(random: &mut Random, fields: &mut Vec<Vec<u8>>, names: &[String]) {
     let field = match fields.len() {
         0 => return,
         // Mostly the formulas of an edge.
@@ -316,7 +497,54 @@ fn change_field(random: &mut Random, fields: &mut Vec<Vec<u8>>) {
         0 => drop(fields.remove(field)),
         1 => fields.insert(field, fields[field].clone()),
         2 => fields[0] = vec![random.pick(b"MSKVETmsk")],
+        3..=5 if field >= 4 => fields[field] = with_term(random, &fields[field], names),
         _ => fields[field] = wrong_field(random, &fields[field]),
+    }
+}
+
+/// A formula that has a term of any kind before it, after it or instead of it.
+fn with_term(random: &mut Random, field: &[u8], names: &[String]) -> Vec<u8> {
+    let (plain, term) = (String::from_utf8_lossy(field), any_term(random, names));
+    let operator = random.pick(&["&", "|", "^", "="]);
+    let text = match random.below(3) {
+        0 => format!("{plain}{operator}{term}"),
+        1 => format!("{term}{operator}{plain}"),
+        _ => term,
+    };
+    text.into_bytes()
+}
+
+/// A name, a bit of a name or two names, of which any may have another width, or be unknown;
+/// or a term of wrong form.
+fn any_term(random: &mut Random, names: &[String]) -> String {
+    let mut name = || match names.is_empty() || random.once_in(10) {
+        true => String::from("unknown"),
+        false => names[random.below(names.len())].clone(),
+    };
+    let (one, other) = (name(), name());
+    match random.below(6) {
+        0 => one,
+        1 | 2 => format!("{one}[{}]", any_index(random)),
+        3 => format!("{one}=={other}"),
+        4 => format!("{one}={other}"),
+        _ => {
+            let part = |byte: char| match byte {
+                'a' => one.clone(),
+                'b' => other.clone(),
+                _ => byte.to_string(),
+            };
+            random.pick(&WRONG_TERMS).chars().map(part).collect()
+        }
+    }
+}
+
+/// About the widths, or past what 8, 16, 32 or 64 bits hold.
+fn any_index(random: &mut Random) -> String {
+    let small = random.below(MAX_WIDTH + 2) as u128;
+    match random.below(8) {
+        0 | 1 => (small + (1 << random.pick(&[8, 16, 32, 64, 72]))).to_string(),
+        2 => "9".repeat(random.within(1..=240)),
+        _ => small.to_string(),
     }
 }
 
@@ -395,6 +623,7 @@ fn near_variable_limit(random: &mut Random) -> Vec<u8> {
     let plan = Plan {
         signals: random.within(0..=63),
         constants: random.within(0..=6),
+        widest: random.pick(&[1, 1, 2, 4]),
         vertices: random.within(1..=64),
         edges: random.within(0..=100),
         operators: 2,
@@ -429,9 +658,32 @@ fn with_fillers(text: &[u8], fillers: usize, operators: usize) -> Vec<u8> {
     text.into_bytes()
 }
 
+/// A graph whose M is over 65,536 or a multiple of it by so little that the rest alone would
+/// do: comparisons of width 16, of which each costs 63 gates and its `&`.
+fn past_sixteen_bits(random: &mut Random) -> Vec<u8> {
+    let due = 65_536 * random.within(1..=6) + random.within(1..=4_095);
+    let edges = 63;
+    let mut left = due - (17 + 2 * edges + 10 * edges - 2);
+    let mut formula = || {
+        let comparisons = (left / 64).min(50);
+        left -= 64 * comparisons;
+        let ones = match comparisons < 25 && left < 64 {
+            true => left,
+            false => 0,
+        };
+        left -= ones;
+        format!("1{}{}", "&a==a".repeat(comparisons), "&1".repeat(ones))
+    };
+    let mut text = String::from("S\ta\t16\nV\tv\n");
+    for _ in 0..edges {
+        text += &format!("E\tv\tv\tt\t{}\t{}\n", formula(), formula());
+    }
+    text.into_bytes()
+}
+
 /// M of a graph that is accepted but for its M and the buffer.
-fn variables(text: &[u8]) -> Option<usize> {
+pub fn variables(text: &[u8]) -> Option<usize> {
     let graph = Graph::parse(text).ok()?;
-    let latches = graph.constants + 2 * graph.edges.len();
-    Some(1 + graph.signals + latches + formula_of_gates(&graph))
+    let latches = graph.constant_bits + 2 * graph.edges.len();
+    Some(1 + graph.signal_bits + latches + formula_of_gates(&graph))
 }

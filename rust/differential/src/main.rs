@@ -10,6 +10,7 @@ mod compare;
 mod coverage;
 mod damage;
 mod graphs;
+mod kinds;
 mod netlists;
 mod pages;
 mod random;
@@ -19,6 +20,7 @@ mod sequence;
 mod sessions;
 mod sweep;
 mod traces;
+mod widths;
 
 use bench::Bench;
 use coverage::Coverage;

@@ -193,7 +193,7 @@ impl Thread {
 
     /// Following paths takes settings × edges for each vertex reached.
     fn affordable_cycles(&self) -> usize {
-        let work = (self.graph.edges.len() + 1) << self.graph.constants;
+        let work = (self.graph.edges.len() + 1) << self.graph.constant_bits;
         (20_000 / work).clamp(3, 30)
     }
 
@@ -203,8 +203,8 @@ impl Thread {
         for shown in &self.shown {
             self.check_shown(shown, &rejected[..shown.cycles])?;
         }
-        bench.coverage.path_cycles += cycles.len() as u64;
-        bench.coverage.path_rejected += count(&rejected) as u64;
+        let coverage = &mut bench.coverage;
+        coverage.record_paths(&self.graph, cycles.len(), count(&rejected));
         Ok(())
     }
 

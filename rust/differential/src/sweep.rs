@@ -1,6 +1,7 @@
 //! Every change of one byte or one number in a few small inputs, every short list of some
-//! lines as a graph, every pair of some numbers as a tally, sessions of every small kind,
-//! and session pages of every small kind and of the largest.
+//! lines as a graph, names of every width and short formulas over them, every pair of some
+//! numbers as a tally, sessions of every small kind, and session pages of every small kind
+//! and of the largest.
 
 use crate::bench::Bench;
 use crate::compare::{Call, Lengths, Memory, Mismatch, Name};
@@ -9,6 +10,7 @@ use crate::pages::{compare_page_into, needed, MAX_CYCLES};
 use crate::rates;
 use crate::sessions::{compare_session, Measurement};
 use crate::traces::MAX_TRACE_BYTES;
+use crate::widths;
 use reference::Tally;
 
 /// Has records of every kind, operators of every strength, both marks.
@@ -17,6 +19,8 @@ const GRAPH: &[u8] = b"S\tp\nS\tq_9\nK\tk\nV\ta\nV\tbZ\n\
 /// Have an `M` line each, and no mark.
 const TERMINAL: &[u8] = b"M\tterminal\nV\ta\nE\ta\ta\t-\t1\t0\n";
 const STRONG: &[u8] = b"M\tstrong\nV\ta\nE\ta\ta\t-\t1\t0\n";
+/// Has names of two bits, one bit of a name and a comparison.
+const WIDE: &[u8] = b"S\ta\t2\nK\tk\t2\nV\tv\nE\tv\tv\tt\ta==k\tk[1]\n";
 const AIGER: &[u8] = b"aag 6 2 3 1 1\n2\n4\n6 5\n8 12 1\n10 10 10\n12\n12 9 4\n";
 const NUMBERS: [u16; 14] = [6, 2, 3, 1, 1, 5, 0, 12, 1, 10, 10, 12, 9, 4];
 const TRACE: &[u8] = b"10\n01\n11\n";
@@ -29,6 +33,7 @@ pub fn sweep(bench: &mut Bench) -> Result<usize, Mismatch> {
         (Name::Build, GRAPH),
         (Name::Build, TERMINAL),
         (Name::Build, STRONG),
+        (Name::Build, WIDE),
         (Name::Read, AIGER),
     ] {
         for changed in changed_texts(text) {
@@ -36,7 +41,7 @@ pub fn sweep(bench: &mut Bench) -> Result<usize, Mismatch> {
             count += 1;
         }
     }
-    for text in lists_of_lines() {
+    for text in [lists_of_lines(), widths::texts()].concat() {
         sweep_call(bench, Call::on_bytes(Name::Build, text))?;
         count += 1;
     }

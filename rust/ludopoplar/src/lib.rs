@@ -71,6 +71,11 @@ pub struct Part {
 /// `M`, tab, `terminal` leaves it at those with `t`; `M`, tab, `strong` makes each edge
 /// terminal. Any other line whose first field is `M` is refused, with 3 if only its place is
 /// wrong, else with 2.
+///
+/// A signal or constant may have a width, 1 to 16: then it stands for so many inputs or
+/// latches, bit 0 first, and a cycle has a byte for each. In a formula `name[n]` is one bit of
+/// it, and `left==right` compares two of one width; a width that does not fit is refused with
+/// 19.
 pub fn build(graph: &[u8], net: &mut [u16]) -> Result<u64, Refusal> {
     let mut gates = 0;
     Refusal::check(raw::build(graph, net, &mut gates))?;

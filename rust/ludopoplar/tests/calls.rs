@@ -1,6 +1,6 @@
-//! The safe calls: document 01's graph G, the edges that are terminal, the words of a start, the
-//! verdict of each run, the rate of each tally, the line handed back from each session, the page of
-//! each run, empty slices, refusals.
+//! The safe calls: document 01's graph G, the edges that are terminal, names wider than a bit, the
+//! words of a start, the verdict of each run, the rate of each tally, the line handed back from each
+//! session, the page of each run, empty slices, refusals.
 
 use ludopoplar::{
     broken_check, broken_line, build, first_broken, per_million, raw, read, run, session_page,
@@ -107,12 +107,12 @@ fn verdict_of_each_run() {
     );
 }
 
-/// Document 02, No. 5: gates, output literal, and the verdict bytes of a trace.
+/// Document 02, Nos. 3 and 5: gates, output literal, and the verdict bytes of a trace.
 fn judged<const N: usize>(graph: &[u8], trace: &[u8]) -> Result<(u64, u16, [u8; N]), Refusal> {
     let mut net = [5; 100];
     let gates = build(graph, &mut net)?;
     let output = net[5 + 2 * usize::from(net[2])];
-    let (mut latches, mut values, mut verdicts) = ([5; 10], [5; 40], [5; N]);
+    let (mut latches, mut values, mut verdicts) = ([5; 10], [5; 80], [5; N]);
     let mut tally = Tally::default();
     start(&net, &mut latches, &mut tally)?;
     let verdict = run(
@@ -176,6 +176,70 @@ fn refused_mode_lines() {
         let shown = graph.escape_ascii();
         assert_eq!(refused, Err(Refusal { number, line }), "{shown}");
         assert_eq!(net, [9; 100], "{shown}");
+    }
+}
+
+/// Document 02, No. 3: three gates a bit, then the two joins.
+#[test]
+fn file_of_an_equality() {
+    let graph = b"S\ta\t3\nS\tb\t3\nV\tv\nE\tv\tv\tt\ta==b\t1\n";
+    let due = b"aag 28 7 2 1 19\n2\n4\n6\n8\n10\n12\n14\n16 50\n18 57\n56\n\
+        20 16 3\n22 18 3\n24 21 3\n26 10 4\n28 11 5\n30 29 27\n32 12 6\n34 13 7\n36 35 33\n\
+        38 14 8\n40 15 9\n42 41 39\n44 37 31\n46 44 43\n48 46 25\n50 48 1\n52 48 0\n\
+        54 46 22\n56 55 53\n";
+    let (mut net, mut text) = ([5; 100], [b'x'; 400]);
+    assert_eq!(build(graph, &mut net), Ok(19));
+    let length = write(&net, &mut text).unwrap();
+    assert_eq!(text[..length], *due);
+}
+
+/// The eight wires of a handle counter, compared at once and wire by wire; and a constant
+/// that takes each value.
+#[test]
+fn wide_names() {
+    let records = "S\thandle\t8\nS\tshown\t8\nV\ta\n";
+    let wires: Vec<String> = (0..8)
+        .map(|n| format!("(handle[{n}]=shown[{n}])"))
+        .collect();
+    let trace = b"10110100101101001\n10110100111101001\n10110100101101000\n";
+    for consequent in ["handle==shown", &wires.join("&")] {
+        let graph = format!("{records}E\ta\ta\tt\t1\t{consequent}\n");
+        let due = (39, 116, [0, 1, 1]);
+        assert_eq!(judged(graph.as_bytes(), trace), Ok(due), "{consequent}");
+    }
+    let graph = b"S\ta\t2\nK\tk\t2\nV\tv\nE\tv\tv\tt\ta==k\tk[1]\n";
+    let judged = judged(graph, b"100\n110\n101\n111\n");
+    assert_eq!(judged, Ok((15, 44, [1, 1, 0, 0])));
+}
+
+#[test]
+fn refused_widths() {
+    let head = "S\ta\t4\nS\tc\t2\nS\tp\nV\tv\n";
+    let edge = |formulas: &str| format!("{head}E\tv\tv\tt\t{formulas}\n");
+    // Their circuit would have 405,230 gates.
+    let dearest = vec!["a==a"; 51].join("&");
+    let edges = format!("E\tv\tv\tt\t{dearest}\t{dearest}\n").repeat(62);
+    let graphs: [(String, (u32, u32)); 14] = [
+        (edge("a==c\t1"), (19, 5)),
+        (edge("a[4]\t1"), (19, 5)),
+        (edge("p[18446744073709551616]\t1"), (19, 5)),
+        (edge("1\ta"), (19, 5)),
+        (edge("a=a\t1"), (19, 5)),
+        (edge("a\tz"), (9, 5)),
+        (edge("a[00]\t1"), (7, 5)),
+        (edge("a[0]==p\t1"), (7, 5)),
+        ("S\ta\t17\nV\tv\n".into(), (2, 1)),
+        ("S\ta\t257\nV\tv\n".into(), (2, 1)),
+        ("V\tv\t1\n".into(), (2, 1)),
+        ("K\tk\t7\nV\tv\n".into(), (4, 1)),
+        ("K\tj\t4\nK\tk\t3\nV\tv\n".into(), (4, 2)),
+        (format!("S\ta\t16\nV\tv\n{edges}"), (11, 0)),
+    ];
+    for (graph, (number, line)) in graphs {
+        let mut net = [9; 100];
+        let refused = build(graph.as_bytes(), &mut net);
+        assert_eq!(refused, Err(Refusal { number, line }), "{graph}");
+        assert_eq!(net, [9; 100], "{graph}");
     }
 }
 

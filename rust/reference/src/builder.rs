@@ -1,8 +1,9 @@
 //! Building: a graph's monitor circuit.
 
 use crate::formula::{Formula, Operator};
-use crate::graph::{Atom, Edge, Graph};
+use crate::graph::{Edge, Graph};
 use crate::netlist::{Gate, Header, Latch, Literal, Netlist, Reset, Variable};
+use crate::operand::{Atom, Operand, Run};
 use crate::refusal::{fill, Cause, Refusal};
 
 /// Checks 1, then the lines, then 10, 11, 12; returns the number of gates made.
@@ -76,30 +77,29 @@ impl<'a> Maker<'a> {
     }
 
     // "Inputs: init, then signals. Latches: constants in order, then happy and
-    // condemned for each edge."
+    // condemned for each edge." A name has one input or latch for each bit of it.
 
     fn inputs(&self) -> usize {
-        1 + self.graph.signals
+        1 + self.graph.signal_bits
     }
 
     fn latches(&self) -> usize {
-        self.graph.constants + 2 * self.graph.edges.len()
+        self.graph.constant_bits + 2 * self.graph.edges.len()
     }
 
     fn init(&self) -> Literal {
         literal(1)
     }
 
-    fn signal(&self, index: usize) -> Literal {
-        literal(2 + index)
-    }
-
-    fn constant(&self, index: usize) -> Literal {
-        literal(1 + self.inputs() + index)
+    fn atom(&self, atom: Atom) -> Literal {
+        match atom {
+            Atom::Signal(place) => literal(2 + place),
+            Atom::Constant(place) => literal(1 + self.inputs() + place),
+        }
     }
 
     fn tokens(&self, edge: usize) -> Tokens {
-        let happy = 1 + self.inputs() + self.graph.constants + 2 * edge;
+        let happy = 1 + self.inputs() + self.graph.constant_bits + 2 * edge;
         Tokens {
             happy: literal(happy),
             condemned: literal(happy + 1),
@@ -169,12 +169,12 @@ impl<'a> Maker<'a> {
 
     /// "Operands left to right before their operator. `&` one gate; `|` one,
     /// inverted; `^` three: both, neither, then neither of those; `=` as `^`, inverted."
-    fn formula(&mut self, formula: &Formula<Atom>) -> Literal {
+    fn formula(&mut self, formula: &Formula<Operand>) -> Literal {
         match formula {
             Formula::Bit(false) => Literal::FALSE,
             Formula::Bit(true) => Literal::TRUE,
-            Formula::Name(Atom::Signal(index)) => self.signal(*index),
-            Formula::Name(Atom::Constant(index)) => self.constant(*index),
+            Formula::Operand(Operand::Bit(atom)) => self.atom(*atom),
+            Formula::Operand(Operand::Equal(left, right)) => self.equal(*left, *right),
             Formula::Not(inner) => !self.formula(inner),
             Formula::Two(operator, left, right) => {
                 let left = self.formula(left);
@@ -195,21 +195,36 @@ impl<'a> Maker<'a> {
         self.and(!both, !neither)
     }
 
-    /// Part 4: "AND of NOT condemned-now over terminal edges in order; none: literal 1."
-    fn accept(&mut self, now: &[Tokens]) -> Literal {
-        let graph = self.graph;
-        let edges = graph.edges.iter().zip(now);
-        edges
-            .filter(|(edge, _)| graph.is_terminal(edge))
-            .map(|(_, tokens)| !tokens.condemned)
+    /// "3 gates a bit, bit 0 first, made as for `=`, then width − 1 more that join them in
+    /// bit order."
+    fn equal(&mut self, left: Run, right: Run) -> Literal {
+        let mut alike = Vec::new();
+        for n in 0..left.width {
+            let (left, right) = (self.atom(left.bit(n)), self.atom(right.bit(n)));
+            alike.push(!self.xor(left, right));
+        }
+        self.and_all(alike)
+    }
+
+    fn and_all(&mut self, terms: impl IntoIterator<Item = Literal>) -> Literal {
+        terms
+            .into_iter()
             .reduce(|so_far, term| self.and(so_far, term))
             .unwrap_or(Literal::TRUE)
     }
 
+    /// Part 4: "AND of NOT condemned-now over terminal edges in order; none: literal 1."
+    fn accept(&mut self, now: &[Tokens]) -> Literal {
+        let graph = self.graph;
+        let edges = graph.edges.iter().zip(now);
+        let terminal = edges.filter(|(edge, _)| graph.is_terminal(edge));
+        self.and_all(terminal.map(|(_, tokens)| !tokens.condemned))
+    }
+
     /// "These feed the latches": constants keep themselves, edges take their tokens.
     fn netlist(self, now: &[Tokens], accept: Literal) -> Netlist {
-        let constants = (0..self.graph.constants).map(|index| Latch {
-            next: self.constant(index),
+        let constants = (0..self.graph.constant_bits).map(|place| Latch {
+            next: self.atom(Atom::Constant(place)),
             reset: Reset::Uninitialised,
         });
         let tokens = now
@@ -372,13 +387,17 @@ mod tests {
             "V a,V b,E b b - 1 1",
             "V a,E a a - 1 1,E a a - 1 1,E a a - 1 1",
             "S p,K k,V a,V b,E a b t p^k p=k=p,E a b - 1 p&!k,E b a t p|k 0,E b b - 1 1",
+            "S p 4,S q 4,K k 4,V a,E a a t p==q=q[3] !k==q&p==k,E a a - p[0]=q[0] 1",
+            "S p,S q,V a,E a a t p==q p==p&q==p",
         ] {
             for mode in ["", "M terminal,", "M strong,"] {
                 let graph = format!("{mode}{graph}");
                 let parsed = Graph::parse(&graph_text(&graph)).unwrap();
                 let gates = built(&graph).0;
                 assert_eq!(gates, formula_of_gates(&parsed), "{graph}");
-                let operators = graph.matches(['&', '|', '^', '=']).count();
+                let operators =
+                    |edge: &Edge| edge.antecedent.operators() + edge.consequent.operators();
+                let operators: usize = parsed.edges.iter().map(operators).sum();
                 assert!(gates <= 10 * parsed.edges.len() + 3 * operators);
             }
         }

@@ -1,21 +1,16 @@
 //! The graph text.
 
-use crate::formula::{self, is_name, Formula, MAX_DEPTH};
+use crate::formula::{self, is_name, number, Formula, MAX_DEPTH};
 use crate::lines::{lines, Line};
+use crate::operand::{Atom, Operand, Run, Term};
 use crate::refusal::{check_size, Cause, Refusal};
 
 const MAX_GRAPH_BYTES: usize = 32_768;
-const MAX_SIGNALS: usize = 63;
-const MAX_CONSTANTS: usize = 6;
+const MAX_SIGNAL_BITS: usize = 63;
+const MAX_CONSTANT_BITS: usize = 6;
+const MAX_WIDTH: usize = 16;
 const MAX_VERTICES: usize = 64;
 const MAX_EDGES: usize = 128;
-
-/// What a name in a formula stands for.
-#[derive(Clone, Copy, Debug, PartialEq, Eq)]
-pub enum Atom {
-    Signal(usize),
-    Constant(usize),
-}
 
 /// The word of an `M` line.
 #[derive(Clone, Copy, Debug, PartialEq, Eq)]
@@ -30,8 +25,8 @@ pub struct Edge {
     pub to: usize,
     /// Whether its mark is `t`. Whether it is terminal, `Graph::is_terminal` says.
     pub marked: bool,
-    pub antecedent: Formula<Atom>,
-    pub consequent: Formula<Atom>,
+    pub antecedent: Formula<Operand>,
+    pub consequent: Formula<Operand>,
 }
 
 /// An assertion graph: vertices by index, the first is the start.
@@ -39,8 +34,9 @@ pub struct Edge {
 pub struct Graph {
     /// `None` where the first line is no `M` line.
     pub mode: Option<Mode>,
-    pub signals: usize,
-    pub constants: usize,
+    /// The widths of all signals together, and of all constants.
+    pub signal_bits: usize,
+    pub constant_bits: usize,
     pub vertices: usize,
     pub edges: Vec<Edge>,
 }
@@ -58,8 +54,8 @@ impl Graph {
         }
         Ok(Graph {
             mode: draft.mode,
-            signals: draft.signals.len(),
-            constants: draft.constants.len(),
+            signal_bits: bits(&draft.signals),
+            constant_bits: bits(&draft.constants),
             vertices: draft.vertices.len(),
             edges: draft.edges,
         })
@@ -88,8 +84,15 @@ enum Kind {
 
 /// A line of some record's shape; its formulas are not yet looked at.
 enum Record<'a> {
-    Named(Kind, &'a [u8]),
+    /// A vertex has width 1.
+    Named(Kind, Named<'a>),
     Edge(EdgeFields<'a>),
+}
+
+#[derive(Clone, Copy)]
+struct Named<'a> {
+    name: &'a [u8],
+    width: usize,
 }
 
 struct EdgeFields<'a> {
@@ -108,9 +111,11 @@ impl<'a> Record<'a> {
         }
         let fields: Vec<&[u8]> = line.bytes.split(|byte| *byte == b'\t').collect();
         match fields[..] {
-            [b"S", name] if is_name(name) => Some(Record::Named(Kind::Signal, name)),
-            [b"K", name] if is_name(name) => Some(Record::Named(Kind::Constant, name)),
-            [b"V", name] if is_name(name) => Some(Record::Named(Kind::Vertex, name)),
+            [b"S", name] => Record::named(Kind::Signal, name, 1),
+            [b"S", name, width] => Record::named(Kind::Signal, name, width_of(width)?),
+            [b"K", name] => Record::named(Kind::Constant, name, 1),
+            [b"K", name, width] => Record::named(Kind::Constant, name, width_of(width)?),
+            [b"V", name] => Record::named(Kind::Vertex, name, 1),
             [b"E", from, to, mark, antecedent, consequent] if is_name(from) && is_name(to) => {
                 Some(Record::Edge(EdgeFields {
                     from,
@@ -124,12 +129,30 @@ impl<'a> Record<'a> {
         }
     }
 
+    fn named(kind: Kind, name: &'a [u8], width: usize) -> Option<Record<'a>> {
+        is_name(name).then_some(Record::Named(kind, Named { name, width }))
+    }
+
     fn kind(&self) -> Kind {
         match self {
             Record::Named(kind, _) => *kind,
             Record::Edge(_) => Kind::Edge,
         }
     }
+
+    /// How much it adds to what is counted of its kind: bits, vertices or edges.
+    fn size(&self) -> usize {
+        match self {
+            Record::Named(_, named) => named.width,
+            Record::Edge(_) => 1,
+        }
+    }
+}
+
+/// "A width of 1 to 16; absent means 1, and it has no leading zero"; here of a field that is
+/// not absent.
+fn width_of(field: &[u8]) -> Option<usize> {
+    number(field).filter(|width| (1..=MAX_WIDTH).contains(width))
 }
 
 /// The word of an `M` line. "Another word is 2", as one more field is, or no LF: such a line
@@ -156,9 +179,9 @@ fn is_marked(mark: &[u8]) -> Option<bool> {
 struct Draft<'a> {
     mode: Option<Mode>,
     last_kind: Option<Kind>,
-    signals: Vec<&'a [u8]>,
-    constants: Vec<&'a [u8]>,
-    vertices: Vec<&'a [u8]>,
+    signals: Vec<Named<'a>>,
+    constants: Vec<Named<'a>>,
+    vertices: Vec<Named<'a>>,
     edges: Vec<Edge>,
 }
 
@@ -174,11 +197,11 @@ impl<'a> Draft<'a> {
         if Some(kind) < self.last_kind {
             return Err(Cause::KindOutOfOrder);
         }
-        if self.is_full(kind) {
+        if self.counted(kind) + record.size() > most(kind) {
             return Err(Cause::OneTooMany);
         }
         match record {
-            Record::Named(kind, name) => self.name(kind, name)?,
+            Record::Named(kind, named) => self.name(kind, named)?,
             Record::Edge(fields) => {
                 let edge = self.edge(&fields)?;
                 self.edges.push(edge);
@@ -198,33 +221,34 @@ impl<'a> Draft<'a> {
         Ok(())
     }
 
-    fn is_full(&self, kind: Kind) -> bool {
+    fn counted(&self, kind: Kind) -> usize {
         match kind {
-            Kind::Signal => self.signals.len() == MAX_SIGNALS,
-            Kind::Constant => self.constants.len() == MAX_CONSTANTS,
-            Kind::Vertex => self.vertices.len() == MAX_VERTICES,
-            Kind::Edge => self.edges.len() == MAX_EDGES,
+            Kind::Signal => bits(&self.signals),
+            Kind::Constant => bits(&self.constants),
+            Kind::Vertex => self.vertices.len(),
+            Kind::Edge => self.edges.len(),
         }
     }
 
     /// "Signals and constants share one list of names; vertices have another."
-    fn name(&mut self, kind: Kind, name: &'a [u8]) -> Result<(), Cause> {
+    fn name(&mut self, kind: Kind, named: Named<'a>) -> Result<(), Cause> {
         let repeated = match kind {
-            Kind::Vertex => self.vertex(name).is_some(),
-            _ => self.atom(name).is_some(),
+            Kind::Vertex => self.vertex(named.name).is_some(),
+            _ => self.run(named.name).is_some(),
         };
         if repeated {
             return Err(Cause::NameRepeated);
         }
         match kind {
-            Kind::Signal => self.signals.push(name),
-            Kind::Constant => self.constants.push(name),
-            _ => self.vertices.push(name),
+            Kind::Signal => self.signals.push(named),
+            Kind::Constant => self.constants.push(named),
+            _ => self.vertices.push(named),
         }
         Ok(())
     }
 
-    /// Over both formulas the lower number decides: grammar, then depth, then names.
+    /// Over both formulas the lower number decides: grammar, then depth, then names, then
+    /// widths.
     fn edge(&self, fields: &EdgeFields) -> Result<Edge, Cause> {
         let from = self.vertex(fields.from).ok_or(Cause::UnknownVertex)?;
         let to = self.vertex(fields.to).ok_or(Cause::UnknownVertex)?;
@@ -233,13 +257,15 @@ impl<'a> Draft<'a> {
         if antecedent.depth > MAX_DEPTH || consequent.depth > MAX_DEPTH {
             return Err(Cause::TooDeep);
         }
-        let look_up = |name: &[u8]| self.atom(name);
+        let look_up = |term: &Term<&[u8]>| term.look_up(&|name| self.run(name));
+        let antecedent = antecedent.formula.try_map(&look_up)?;
+        let consequent = consequent.formula.try_map(&look_up)?;
         Ok(Edge {
             from,
             to,
             marked: fields.marked,
-            antecedent: antecedent.formula.resolve(&look_up)?,
-            consequent: consequent.formula.resolve(&look_up)?,
+            antecedent: antecedent.try_map(&Term::operand)?,
+            consequent: consequent.try_map(&Term::operand)?,
         })
     }
 
@@ -247,15 +273,37 @@ impl<'a> Draft<'a> {
         position(&self.vertices, name)
     }
 
-    fn atom(&self, name: &[u8]) -> Option<Atom> {
-        position(&self.signals, name)
-            .map(Atom::Signal)
-            .or_else(|| position(&self.constants, name).map(Atom::Constant))
+    /// "Whoever looks up a name now receives its first place and its width."
+    fn run(&self, name: &[u8]) -> Option<Run> {
+        place(&self.signals, name, Atom::Signal)
+            .or_else(|| place(&self.constants, name, Atom::Constant))
     }
 }
 
-fn position(names: &[&[u8]], name: &[u8]) -> Option<usize> {
-    names.iter().position(|other| *other == name)
+/// "The totals stay 63 and 6 bits."
+fn most(kind: Kind) -> usize {
+    match kind {
+        Kind::Signal => MAX_SIGNAL_BITS,
+        Kind::Constant => MAX_CONSTANT_BITS,
+        Kind::Vertex => MAX_VERTICES,
+        Kind::Edge => MAX_EDGES,
+    }
+}
+
+fn bits(records: &[Named]) -> usize {
+    records.iter().map(|record| record.width).sum()
+}
+
+fn position(records: &[Named], name: &[u8]) -> Option<usize> {
+    records.iter().position(|record| record.name == name)
+}
+
+fn place(records: &[Named], name: &[u8], atom: fn(usize) -> Atom) -> Option<Run> {
+    let position = position(records, name)?;
+    Some(Run {
+        first: atom(bits(&records[..position])),
+        width: records[position].width,
+    })
 }
 
 #[cfg(test)]
@@ -275,12 +323,175 @@ mod tests {
     #[test]
     fn records() {
         let graph = accepted("S p,K k,V a,V b,E a b t p k,E b b - 1 !p");
-        assert_eq!((graph.signals, graph.constants, graph.vertices), (1, 1, 2));
+        assert_eq!(
+            (graph.signal_bits, graph.constant_bits, graph.vertices),
+            (1, 1, 2)
+        );
         let edge = &graph.edges[0];
         assert_eq!((edge.from, edge.to, edge.marked), (0, 1, true));
-        assert_eq!(edge.antecedent, Formula::Name(Atom::Signal(0)));
-        assert_eq!(edge.consequent, Formula::Name(Atom::Constant(0)));
+        assert_eq!(
+            edge.antecedent,
+            Formula::Operand(Operand::Bit(Atom::Signal(0)))
+        );
+        assert_eq!(
+            edge.consequent,
+            Formula::Operand(Operand::Bit(Atom::Constant(0)))
+        );
         assert!(!graph.edges[1].marked);
+    }
+
+    /// What the antecedent of the last edge stands for.
+    fn antecedent(graph: &str) -> Formula<Operand> {
+        accepted(graph).edges.pop().unwrap().antecedent
+    }
+
+    /// First places and widths.
+    #[test]
+    fn places_of_names() {
+        let head = "S p,S a 3,S b 3,S q,K k 2,K j,K l 3,V v";
+        let graph = accepted(head);
+        assert_eq!((graph.signal_bits, graph.constant_bits), (8, 6));
+        let (signal, constant) = (Atom::Signal, Atom::Constant);
+        let bit = |name: &str| antecedent(&format!("{head},E v v t {name} 1"));
+        for (name, due) in [
+            ("p", signal(0)),
+            ("p[0]", signal(0)),
+            ("a[0]", signal(1)),
+            ("a[2]", signal(3)),
+            ("b[0]", signal(4)),
+            ("b[2]", signal(6)),
+            ("q", signal(7)),
+            ("k[0]", constant(0)),
+            ("k[1]", constant(1)),
+            ("j", constant(2)),
+            ("j[0]", constant(2)),
+            ("l[0]", constant(3)),
+            ("l[2]", constant(5)),
+        ] {
+            assert_eq!(bit(name), Formula::Operand(Operand::Bit(due)), "{name}");
+        }
+        let run = |first, width| Run { first, width };
+        for (formula, left, right) in [
+            ("a==b", run(signal(1), 3), run(signal(4), 3)),
+            ("b==a", run(signal(4), 3), run(signal(1), 3)),
+            ("l==a", run(constant(3), 3), run(signal(1), 3)),
+            ("k==k", run(constant(0), 2), run(constant(0), 2)),
+            ("j==q", run(constant(2), 1), run(signal(7), 1)),
+        ] {
+            let due = Formula::Operand(Operand::Equal(left, right));
+            assert_eq!(bit(formula), due, "{formula}");
+        }
+    }
+
+    #[test]
+    fn width_fields() {
+        for kind in ["S", "K"] {
+            for width in 1..=6 {
+                let graph = accepted(&format!("{kind} x {width},V v"));
+                assert_eq!(graph.signal_bits + graph.constant_bits, width);
+            }
+            for wrong in [
+                "",
+                "0",
+                "00",
+                "01",
+                "016",
+                "17",
+                "18",
+                "20",
+                "99",
+                "100",
+                "256",
+                "257",
+                "272",
+                "65537",
+                "4294967297",
+                "18446744073709551617",
+                "+1",
+                "-1",
+                "1.0",
+                "1\r",
+                "1x",
+                "x",
+                "a",
+                "1\0",
+                "0x1",
+                "1 ",
+                " 1",
+                "1 1",
+                "1 x",
+            ] {
+                let graph = format!("{kind} x {wrong},V v");
+                assert_eq!(refused(&graph), (2, 1), "{wrong:?}");
+                let after_mode = format!("M strong,{kind} x {wrong},V v");
+                assert_eq!(refused(&after_mode), (2, 2), "{wrong:?}");
+            }
+            let cut = format!("{kind}\tx\t4");
+            assert_eq!(numbered(Graph::parse(cut.as_bytes()).unwrap_err()), (2, 1));
+        }
+        for width in ["1", "2", "", "0", "x"] {
+            assert_eq!(refused(&format!("V v {width}")), (2, 1), "{width}");
+            assert_eq!(refused(&format!("V v,V w {width}")), (2, 2), "{width}");
+        }
+        assert_eq!(refused("S 4,V v"), (2, 1));
+        assert_eq!(refused("S x\u{b}4,V v"), (2, 1));
+        assert_eq!(refused("S x4 y,V v"), (2, 1));
+    }
+
+    /// Each total of bits, by two records.
+    #[test]
+    fn totals_by_bits() {
+        let filled = |kind: &str, bits: usize| -> String {
+            let count = |at: usize| (bits - 16 * at).min(16);
+            (0..bits.div_ceil(16))
+                .map(|at| format!("{kind} {kind}{at} {},", count(at)))
+                .collect()
+        };
+        for (kind, most) in [("S", 63), ("K", 6)] {
+            for before in 0..=most {
+                for width in 1..=16 {
+                    let graph = format!("{}{kind} last {width},V v", filled(kind, before));
+                    let line = before.div_ceil(16) as u32 + 1;
+                    match before + width <= most {
+                        true => {
+                            let graph = accepted(&graph);
+                            let bits = graph.signal_bits + graph.constant_bits;
+                            assert_eq!(bits, before + width);
+                        }
+                        false => assert_eq!(refused(&graph), (4, line), "{graph}"),
+                    }
+                }
+            }
+        }
+        // A record that passes the total is refused, also where a narrower one had fitted.
+        assert_eq!(refused("K a 5,K b 2,K c,V v"), (4, 2));
+        // The two kinds count apart; the order in a line is 2, 3, 4, 5.
+        let full = format!("{}{}", filled("S", 63), filled("K", 6));
+        assert_eq!(accepted(&format!("{full}V v")).signal_bits, 63);
+        assert_eq!(refused(&format!("{full}S x,V v")), (3, 6));
+        assert_eq!(refused(&format!("{full}S x 17,V v")), (2, 6));
+        assert_eq!(refused(&format!("{full}K S0,V v")), (4, 6));
+        assert_eq!(refused("S x 2,S x 2,V v"), (5, 2));
+        assert_eq!(refused("S x 2,K x 3,V v"), (5, 2));
+        assert_eq!(refused("S x 2,K x 7,V v"), (4, 2));
+        assert_eq!(accepted("S x 2,V x").signal_bits, 2);
+    }
+
+    /// A name is compared whole, and without its width.
+    #[test]
+    fn names_with_widths() {
+        assert_eq!(refused("S ab 2,S ab,V v"), (5, 2));
+        assert_eq!(accepted("S ab 2,S a,S abc,S ab2,V v").signal_bits, 5);
+        assert_eq!(refused("S ab 2,V v,E v v t a 1"), (9, 3));
+        assert_eq!(refused("S ab 2,V v,E v v t ab2[0] 1"), (9, 3));
+        let name = "abcdefghijklmno";
+        let edge = |formula: &str| format!("S {name} 2,V v,E v v t {formula} 1");
+        assert_eq!(accepted(&edge(&format!("{name}[1]"))).edges.len(), 1);
+        let same = edge(&format!("{name}=={name}"));
+        assert_eq!(accepted(&same).edges.len(), 1);
+        assert_eq!(refused(&edge(&format!("{name}p[1]"))), (7, 3));
+        assert_eq!(refused(&edge(&format!("{name}=={name}p"))), (7, 3));
+        assert_eq!(refused(&format!("S {name}p 2,V v")), (2, 1));
     }
 
     /// Which edges of a graph are terminal.
@@ -422,12 +633,12 @@ mod tests {
         assert_eq!(terminal("S M,V M,E M M - M M"), [true]);
         assert_eq!(terminal("M strong,S M,V M,E M M - M M"), [true]);
         assert_eq!(terminal("M terminal,K M,V M,E M M - M M"), [false]);
-        assert_eq!(accepted("S terminal,V strong").signals, 1);
+        assert_eq!(accepted("S terminal,V strong").signal_bits, 1);
     }
 
     #[test]
     fn lists_of_names() {
-        assert_eq!(accepted("S a,V a").signals, 1);
+        assert_eq!(accepted("S a,V a").signal_bits, 1);
         assert_eq!(refused("S a,S b,S a,V v"), (5, 3));
         assert_eq!(refused("S a,K a,V v"), (5, 2));
         assert_eq!(refused("V v,V v"), (5, 2));
@@ -465,7 +676,7 @@ mod tests {
     fn name_lengths() {
         let name = "abcdefghijklmno";
         assert_eq!(name.len(), 15);
-        assert_eq!(accepted(&format!("S {name},V a")).signals, 1);
+        assert_eq!(accepted(&format!("S {name},V a")).signal_bits, 1);
         assert_eq!(refused(&format!("S {name}p,V a")), (2, 1));
         assert_eq!(refused(&format!("V a,E a {name}p t 1 1")), (2, 2));
         assert_eq!(refused(&format!("V a,E a a t {name}p 1")), (7, 2));
@@ -483,9 +694,9 @@ mod tests {
         let many = |kind: &str, count: usize| -> String {
             (0..count).map(|i| format!("{kind} n{i},")).collect()
         };
-        assert_eq!(accepted(&format!("{}V a", many("S", 63))).signals, 63);
+        assert_eq!(accepted(&format!("{}V a", many("S", 63))).signal_bits, 63);
         assert_eq!(refused(&format!("{}V a", many("S", 64))), (4, 64));
-        assert_eq!(accepted(&format!("{}V a", many("K", 6))).constants, 6);
+        assert_eq!(accepted(&format!("{}V a", many("K", 6))).constant_bits, 6);
         assert_eq!(refused(&format!("{}V a", many("K", 7))), (4, 7));
         assert_eq!(accepted(many("V", 64).trim_end_matches(',')).vertices, 64);
         assert_eq!(refused(many("V", 65).trim_end_matches(',')), (4, 65));

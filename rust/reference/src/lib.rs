@@ -1,4 +1,4 @@
-//! Document 01, as Nos. 2 and 5 of document 02 change it, and Nos. 8, 9 and 12 of
+//! Document 01, as Nos. 2, 3 and 5 of document 02 change it, and Nos. 8, 9 and 12 of
 //! document 02, once more in plain safe Rust, written from their sentences alone; and what
 //! the program `sheet` prints.
 //!
@@ -13,6 +13,7 @@ mod formula;
 mod graph;
 mod lines;
 mod netlist;
+mod operand;
 mod page;
 mod paths;
 mod rate;
@@ -26,9 +27,10 @@ mod trace;
 pub use aiger::{read, write};
 pub use broken::{broken_check, first_broken, Part, Trace};
 pub use builder::{build, formula_of_gates};
-pub use formula::{Formula, Operator};
-pub use graph::{Atom, Edge, Graph, Mode};
+pub use formula::{parse as parse_formula, Formula, Operator, Parsed};
+pub use graph::{Edge, Graph, Mode};
 pub use netlist::{Gate, Header, Latch, Literal, Netlist, Reset, Variable};
+pub use operand::{Atom, Operand, Run, Term};
 pub use page::session_page;
 pub use paths::rejected_cycles;
 pub use rate::{per_million, Rate};

@@ -2,7 +2,8 @@
 //! tally is looked at.
 
 use crate::formula::Formula;
-use crate::graph::{Atom, Edge, Graph};
+use crate::graph::{Edge, Graph};
+use crate::operand::{Atom, Operand};
 use std::collections::BTreeSet;
 
 /// A path as far as later edges can tell: the vertex it has come to, and
@@ -21,7 +22,7 @@ struct Reached {
 /// single path.
 pub fn rejected_cycles(graph: &Graph, cycles: &[&[u8]]) -> Vec<bool> {
     let mut rejected = vec![false; cycles.len()];
-    for setting in 0..1usize << graph.constants {
+    for setting in 0..1usize << graph.constant_bits {
         let mut reached = BTreeSet::new();
         for (cycle, rejected) in cycles.iter().zip(&mut rejected) {
             let moment = Moment { cycle, setting };
@@ -60,7 +61,7 @@ fn follow(graph: &Graph, reached: &BTreeSet<Reached>, moment: Moment) -> (BTreeS
 }
 
 /// "Each edge's antecedent and consequent are judged on its own cycle's inputs
-/// and the setting." Bit j of the setting is the j-th constant.
+/// and the setting." Bit j of the setting is the j-th constant bit.
 #[derive(Clone, Copy)]
 struct Moment<'a> {
     cycle: &'a [u8],
@@ -73,11 +74,12 @@ impl Moment<'_> {
         self.cycle[0] == b'1'
     }
 
-    fn judge(self, formula: &Formula<Atom>) -> bool {
-        formula.judge(&|atom| match atom {
-            Atom::Signal(index) => self.cycle[1 + index] == b'1',
-            Atom::Constant(index) => (self.setting >> index) & 1 == 1,
-        })
+    fn judge(self, formula: &Formula<Operand>) -> bool {
+        let value = |atom| match atom {
+            Atom::Signal(place) => self.cycle[1 + place] == b'1',
+            Atom::Constant(place) => (self.setting >> place) & 1 == 1,
+        };
+        formula.judge(&|operand| operand.judge(&value))
     }
 
     /// Whether a path is condemned after taking the edge; `None` if it cannot take it.
@@ -132,7 +134,7 @@ mod tests {
                 latest_init.is_some_and(|init| {
                     let span = &cycles[init..=asked];
                     paths(graph, span.len()).iter().any(|path| {
-                        (0..1 << graph.constants)
+                        (0..1 << graph.constant_bits)
                             .any(|setting| is_rejecting(graph, path, span, setting))
                     })
                 })
@@ -155,6 +157,24 @@ mod tests {
         let constant = "S p,K k,V a,E a a t k p";
         assert_eq!(rejected(constant, "10"), [true]);
         assert_eq!(rejected(constant, "11"), [false]);
+    }
+
+    #[test]
+    fn settings_of_constant_bits() {
+        // Some setting has the value of s, and another one has not.
+        let equal = "S s 2,K k 2,V a,E a a t s==k k[0]";
+        let due = [true, false, true, false];
+        assert_eq!(rejected(equal, "100,110,101,111"), due);
+        let other = "S s 2,K k 2,V a,E a a t !s==k k[0]";
+        assert_eq!(rejected(other, "100,110,101,111"), [true; 4]);
+        // One setting in all cycles: the value of s in cycle 1 comes again in cycle 2.
+        let again = "S s 2,K k 2,V a,V b,V c,E a b - s==k 1,E b c t 1 s==k";
+        let value = |first: &str, second: &str| rejected(again, &format!("1{first},0{second}"));
+        for first in ["00", "10", "01", "11"] {
+            for second in ["00", "10", "01", "11"] {
+                assert_eq!(value(first, second), [false, first != second]);
+            }
+        }
     }
 
     #[test]
@@ -197,11 +217,28 @@ mod tests {
     const FORMULAS: [&str; 10] = [
         "1", "1", "0", "p", "!q", "k", "p=k", "p|j", "q^j&k", "!(k=j)|p",
     ];
+    /// Over names of width 2.
+    const WIDE_FORMULAS: [&str; 10] = [
+        "1",
+        "1",
+        "0",
+        "s[0]",
+        "!s[1]",
+        "k[1]",
+        "s==k",
+        "!k==s",
+        "s[1]|k[0]",
+        "k==k&s[0]=k[1]",
+    ];
 
     fn small_graph(random: &mut Random) -> String {
         let vertices = ["a", "b", "c"];
         let mode = random.one_of(&["", "", "M terminal,", "M strong,"]);
-        let mut graph = format!("{mode}S p,S q,K k,K j,V a,V b,V c");
+        let (records, formulas) = match random.below(2) {
+            0 => ("S p,S q,K k,K j", FORMULAS),
+            _ => ("S s 2,K k 2", WIDE_FORMULAS),
+        };
+        let mut graph = format!("{mode}{records},V a,V b,V c");
         // In every third graph no edge is marked.
         let marks = if random.below(3) == 0 {
             ["-", "-"]
@@ -211,7 +248,7 @@ mod tests {
         for _ in 0..random.below(6) {
             let (from, to) = (random.one_of(&vertices), random.one_of(&vertices));
             let mark = random.one_of(&marks);
-            let (a, c) = (random.one_of(&FORMULAS), random.one_of(&FORMULAS));
+            let (a, c) = (random.one_of(&formulas), random.one_of(&formulas));
             graph += &format!(",E {from} {to} {mark} {a} {c}");
         }
         graph

@@ -47,7 +47,7 @@ fn judged(input: &[u8]) -> Result<Vec<u8>, Refusal> {
     };
     build(&graph, &mut [0; NUMBERS])?;
     let graph = Graph::parse(&graph)?;
-    let cycles = cycles_of(1 + graph.signals, &trace)?;
+    let cycles = cycles_of(1 + graph.signal_bits, &trace)?;
     let rejected = rejected_cycles(&graph, &cycles);
     Ok(rejected.into_iter().map(u8::from).collect())
 }

@@ -1,9 +1,9 @@
 //! No. 5 of document 02, "no mark means all edges": worked cases, numbered as they were
 //! decided, each a graph text byte for byte.
 
-use reference::{build, rejected_cycles, run, start, Graph, Tally, Verdict};
+mod common;
 
-const NUMBERS: usize = 8_194;
+use common::{netlist, page};
 
 /// The output literal stands after M I L O A and the latches.
 fn output(net: &[u16]) -> u16 {
@@ -12,47 +12,7 @@ fn output(net: &[u16]) -> u16 {
 
 /// Gates and output literal, or number and line of the refusal.
 fn built(graph: &[u8]) -> Result<(usize, u16), (u8, u32)> {
-    let mut net = [0; NUMBERS];
-    match build(graph, &mut net) {
-        Ok(gates) => Ok((gates, output(&net))),
-        Err(refusal) => Err((refusal.number, refusal.line)),
-    }
-}
-
-/// The monitor program's page on a trace, by the circuit and by the paths.
-fn page(graph: &[u8], trace: &[u8]) -> String {
-    let mut net = [0; NUMBERS];
-    build(graph, &mut net).unwrap();
-    let cycles: Vec<&[u8]> = trace.split(|byte| *byte == b'\n').collect();
-    let cycles = &cycles[..cycles.len() - 1];
-    let (mut latches, mut values) = (vec![0; 4_094], vec![0; 4_096]);
-    let (mut verdicts, mut tally) = (vec![0; cycles.len()], Tally::default());
-    start(&net, &mut latches, &mut tally).unwrap();
-    let verdict = run(
-        &net,
-        trace,
-        &mut latches,
-        &mut values,
-        &mut verdicts,
-        &mut tally,
-    );
-    let graph = Graph::parse(graph).unwrap();
-    let by_paths: Vec<u8> = rejected_cycles(&graph, cycles)
-        .into_iter()
-        .map(u8::from)
-        .collect();
-    assert_eq!(verdicts, by_paths);
-    let mut page = String::new();
-    for (cycle, byte) in (1..).zip(&verdicts) {
-        if *byte == 1 {
-            page += &format!("R\t{cycle}\n");
-        }
-    }
-    let verdict = match verdict.unwrap() {
-        Verdict::Accepted => "accepted",
-        Verdict::Rejected => "rejected",
-    };
-    page + &format!("sum\t{}\t{}\t{verdict}\n", tally.cycles, tally.rejected)
+    netlist(graph).map(|(gates, net)| (gates, output(&net)))
 }
 
 const REJECTED: &str = "R\t1\nsum\t1\t1\trejected\n";

@@ -6,7 +6,9 @@ use Rattle.builder.proofs.build_checked.Statement.{statement}
 use Rattle.builder.proofs.build_checked.Tie as tie
 
 gate-count-requires : tie.Need-gate-count-requires
-gate-count-requires c κs = ends.kept (c .before .before .args .text .now) (c .before .before .args .g) (c .before .before .pre)
+gate-count-requires c κs =
+    let s = c .before .before in
+    (ends.good (s .args .text .now) (s .args .g) (s .pre) .bounded, ends.kept (s .args .text .now) (s .args .g) (s .pre))
 
 mul-latches : tie.Need-mul-latches
 mul-latches c = let w = ends.good (c .before .before .before .before .args .text .now) (c .before .before .before .before .args .g) (c .before .before .before .before .pre) in omega (arith, w .edges)

@@ -7,6 +7,7 @@ use mathlib.Core.List.{List, [], _∷_, _++_}
 use lib.ListN.{length, getD, take}
 use Rattle.formula.specs.Grammar.{treeOf}
 use Rattle.assertion.specs.Graph.{Bytes, Edge, Graph}
+use Rattle.graph.specs.Pieces.{Declared}
 use Rattle.graph.specs.Reading.{accepted, graphOf, judgedFormula, treeExpr}
 use Rattle.graph.specs.Held.{noArc, heldOf}
 use Rattle.graph.specs.Private.Steps.{listed, leftOf, rightOf}
@@ -15,6 +16,7 @@ use Rattle.graph.specs.declared.CheckedGraph.{CheckedGraph}
 use Rattle.graph.specs.declared.Judged.the-variants.{Fine}
 use Rattle.circuit.specs.Build.{Two, EdgePiece, edgePiece}
 use Rattle.builder.specs.Private.Adding.{Added}
+use Rattle.builder.specs.Private.Machine.{Bounded}
 use Rattle.builder.specs.Private.Terms.{Gathers}
 
 -- the text is accepted, and the code holds its graph
@@ -23,12 +25,12 @@ pub record Accepted (text : Bytes) (g : CheckedGraph) : Type 0 where
   pub read : graphOf text ≡ accepted graph
   pub held : g ≡ heldOf text graph
 
--- the names of the signals and then the constants
-abbrev pub namesIn : Bytes → CheckedGraph → List Bytes
-namesIn text g = listed text (g .names) (g .signals + g .constants)
+-- the signals and then the constants
+abbrev pub namesIn : Bytes → CheckedGraph → List Declared
+namesIn text g = listed text (g .names) (g .named)
 
--- an edge whose formulas stand in the text, marked where it is terminal; ns are the names, of which s are signals
-unfoldable pub edgeIn : Bytes → List Bytes → ℕ → Arc → Edge
+-- an edge whose formulas stand in the text, marked where it is terminal; ns are the names, with s signal bits
+unfoldable pub edgeIn : Bytes → List Declared → ℕ → Arc → Edge
 edgeIn text ns s a =
     record {
       from = a .from;
@@ -40,7 +42,7 @@ edgeIn text ns s a =
       consequentText = rightOf text a;
     }
 
-abbrev pub edgesFrom : Bytes → List Bytes → ℕ → List Arc → List Edge
+abbrev pub edgesFrom : Bytes → List Declared → ℕ → List Arc → List Edge
 edgesFrom text ns s [] = []
 edgesFrom text ns s (a ∷ more) = edgeIn text ns s a ∷ edgesFrom text ns s more
 
@@ -49,13 +51,15 @@ unfoldable pub edgesIn : Bytes → CheckedGraph → List Edge
 edgesIn text g = edgesFrom text (namesIn text g) (g .signals) (take (g .edges) (g .arcs))
 
 -- the formulas are no refused ones, and the from-vertex is one of the vertices
-pub record ArcGood (text : Bytes) (ns : List Bytes) (vertices : ℕ) (a : Arc) : Type 0 where
+pub record ArcGood (text : Bytes) (ns : List Declared) (vertices : ℕ) (a : Arc) : Type 0 where
   pub from : a .from < vertices
   pub left-fine : judgedFormula ns (leftOf text a) ≡ Fine
   pub right-fine : judgedFormula ns (rightOf text a) ≡ Fine
 
 pub record GraphGood (text : Bytes) (g : CheckedGraph) : Type 0 where
   pub each : (i : ℕ) → i < g .edges → ArcGood text (namesIn text g) (g .vertices) (getD (g .arcs) i noArc)
+  pub bounded : Bounded (namesIn text g)
+  pub named : g .named ≤ g .signals + g .constants
   pub signals : g .signals ≤ 63
   pub constants : g .constants ≤ 6
   pub vertices : g .vertices ≤ 64

@@ -1,14 +1,18 @@
 -- What the private readers promise of their answers and of the words they store. Assumes nothing.
-use Prim.Native.Nat.{ℕ, _+_, _*_, _-_, _≤_, _<_, max}
+use Prim.Native.Nat.{ℕ, _+_, _*_, _-_, _≤_, _<_, max, min}
 use mathlib.Core.Path.{_≡_}
 use mathlib.Core.Bool.{Bool, true, false}
 use mathlib.Core.List.{List, _++_}
-use lib.Dec.{leb, eqb}
+use lib.Dec.{eqb}
 use lib.ListN.{length, drop, getD, set}
 use lib.Seq.{sets}
-use Rattle.formula.specs.Classes.{pick, run}
-use Rattle.formula.specs.Grammar.{Tree, Got, failed, got, depthOf}
-use Rattle.formula.specs.Reading.{nameWord, byteWord, postfix}
+use Rattle.text.specs.Numbers.{leadingDigits, valueFrom}
+use Rattle.formula.specs.Classes.{pick}
+use Rattle.formula.specs.Grammar.{Got, failed, got, isIndex, depthOf}
+use Rattle.formula.specs.Reading.{byteWord, postfix}
+use Rattle.formula.specs.declared.names.Index.{Index}
+use Rattle.formula.specs.declared.names.Word.{Word}
+use Rattle.formula.specs.declared.names.Word.the-variants.{Wrong, Known}
 use Rattle.formula.specs.declared.readers.Read.{Read}
 use Rattle.formula.specs.declared.readers.Read.the-variants.{Failed, Done}
 
@@ -72,12 +76,16 @@ abbrev pub putOf : List ℕ → Read → ℕ → List ℕ
 putOf out Failed b = out
 putOf out (Done next count depth) b = set out count (byteWord b)
 
-abbrev pub namedOf : List ℕ → ℕ → ℕ → Read
-namedOf s at n = pick (leb (run (drop at s)) 15) (Done (at + run (drop at s)) (n + 1) 0) Failed
+-- a name and what belongs to it are one word
+abbrev pub wordRead : Got → Word
+wordRead failed = Wrong
+wordRead (got e to) = Known to (getD (postfix e) 0 0)
 
--- the buffer with the word of the name at `at`
-abbrev pub nameStored : List ℕ → ℕ → List ℕ → ℕ → List ℕ
-nameStored s at out n = pick (leb (run (drop at s)) 15) (set out n (nameWord at (run (drop at s)))) out
+-- the digits from `at` on: their number, cut at 16, how many there are, and whether they are an index
+abbrev pub indexAt : List ℕ → ℕ → Index
+indexAt s at =
+    let ds = leadingDigits (drop at s) in
+    record { formed = isIndex ds; value = min (valueFrom 0 ds) 16; next = at + length ds }
 
 -- the answer fits what the grammar gives, and the buffer is as it was before, with the words of the form
 -- stored from n on

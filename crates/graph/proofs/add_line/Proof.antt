@@ -2,7 +2,7 @@
 use mathlib.Core.Path.{ap, subst, _∙_}
 use native.Mathlib.Omega.{arith}
 use Rattle.graph.specs.Private.Steps.{Placed, addedOf}
-use Rattle.graph.proofs.LineLaws.{part-length, name-at, line-wrong, line-mode, line-signal, line-constant, line-vertex, line-edge, edge-at}
+use Rattle.graph.proofs.LineLaws.{part-length, name-at, name-long, line-wrong, line-mode, line-signal, line-constant, line-vertex, line-edge, edge-at}
 use borrow.Author.Needs.{needs}
 use Rattle.graph.proofs.add_line.Statement.{statement}
 use Rattle.graph.proofs.add_line.Tie as tie
@@ -38,10 +38,13 @@ add-add-signal : tie.Need-add-add-signal
 add-add-signal c =
     let s = c .before .before .before .before .before .before in
     let i = subst (Placed _) (c .before .shape2 .given .1) (c .before .before .before .shape-of .ensures .1) in
-    omega (arith, i .0, part-length (s .args .text .now) (s .args .at) (s .args .end) (s .pre .2) (s .pre .3))
+    omega (arith, i .0 .0 .0, part-length (s .args .text .now) (s .args .at) (s .args .end) (s .pre .2) (s .pre .3))
 
 add-signal-requires : tie.Need-add-signal-requires
-add-signal-requires c κs = search needs
+add-signal-requires c κs =
+    let s = c .before .before .before .before .before .before in
+    let i = subst (Placed _) (c .before .shape2 .given .1) (c .before .before .before .shape-of .ensures .1) in
+    (s .pre .0, i .1, omega (arith, i .0 .0 .0, part-length (s .args .text .now) (s .args .at) (s .args .end) (s .pre .2) (s .pre .3), s .pre .4), i .2)
 
 enum-known-shape-3 : tie.Need-enum-known-shape-3
 enum-known-shape-3 c = search needs
@@ -50,10 +53,13 @@ add-add-constant : tie.Need-add-add-constant
 add-add-constant c =
     let s = c .before .before .before .before .before .before in
     let i = subst (Placed _) (c .before .shape3 .given .1) (c .before .before .before .shape-of .ensures .1) in
-    omega (arith, i .0, part-length (s .args .text .now) (s .args .at) (s .args .end) (s .pre .2) (s .pre .3))
+    omega (arith, i .0 .0 .0, part-length (s .args .text .now) (s .args .at) (s .args .end) (s .pre .2) (s .pre .3))
 
 add-constant-requires : tie.Need-add-constant-requires
-add-constant-requires c κs = search needs
+add-constant-requires c κs =
+    let s = c .before .before .before .before .before .before in
+    let i = subst (Placed _) (c .before .shape3 .given .1) (c .before .before .before .shape-of .ensures .1) in
+    (s .pre .0, i .1, omega (arith, i .0 .0 .0, part-length (s .args .text .now) (s .args .at) (s .args .end) (s .pre .2) (s .pre .3), s .pre .4), i .2)
 
 enum-known-shape-4 : tie.Need-enum-known-shape-4
 enum-known-shape-4 c = search needs
@@ -98,9 +104,10 @@ returns-3 c =
     let a = s .args in
     let x = c .before .before .before .before .shape-of in
     let e = c .before .before .shape2 .given .1 in
+    let i = subst (Placed _) e (x .ensures .1) in
     λ graph h ha.
-    c .add-signal .ensures graph h (name-at (a .text .now) graph _ (a .at) (a .end) ha (s .pre .1) (x .result) (x .ensures) _ (subst (Placed _) e (x .ensures .1)))
-    ∙ ap (addedOf (a .text .now) (a .g)) (line-signal (a .text .now) graph _ (a .at) (a .end) ha (s .pre .1) (x .result) (x .ensures) _ e)
+    c .add-signal .ensures graph h (name-at (a .text .now) graph _ (a .at) (a .end) ha (s .pre .1) (x .result) (x .ensures) _ (i .0 .0)) (name-long (a .text .now) graph _ (a .at) (a .end) ha (s .pre .1) (x .result) (x .ensures) _ _ (i .0))
+    ∙ ap (addedOf (a .text .now) (a .g)) (line-signal (a .text .now) graph _ (a .at) (a .end) ha (s .pre .1) (x .result) (x .ensures) _ _ _ e)
 
 returns-4 : tie.Need-returns-4
 returns-4 c =
@@ -108,9 +115,10 @@ returns-4 c =
     let a = s .args in
     let x = c .before .before .before .before .shape-of in
     let e = c .before .before .shape3 .given .1 in
+    let i = subst (Placed _) e (x .ensures .1) in
     λ graph h ha.
-    c .add-constant .ensures graph h (name-at (a .text .now) graph _ (a .at) (a .end) ha (s .pre .1) (x .result) (x .ensures) _ (subst (Placed _) e (x .ensures .1)))
-    ∙ ap (addedOf (a .text .now) (a .g)) (line-constant (a .text .now) graph _ (a .at) (a .end) ha (s .pre .1) (x .result) (x .ensures) _ e)
+    c .add-constant .ensures graph h (name-at (a .text .now) graph _ (a .at) (a .end) ha (s .pre .1) (x .result) (x .ensures) _ (i .0 .0)) (name-long (a .text .now) graph _ (a .at) (a .end) ha (s .pre .1) (x .result) (x .ensures) _ _ (i .0))
+    ∙ ap (addedOf (a .text .now) (a .g)) (line-constant (a .text .now) graph _ (a .at) (a .end) ha (s .pre .1) (x .result) (x .ensures) _ _ _ e)
 
 returns-5 : tie.Need-returns-5
 returns-5 c =

@@ -49,7 +49,7 @@ add-line-requires c κs =
     let e = c .before in
     let l = e .before .before .loop in
     let t = e .before .before .before .before .before .before .args .text .now in
-    (going-kept t (l .g) (l .at) (l .line) (l .inv .3), e .end-at .ensures .0, e .end-at .ensures .1, e .end-at .ensures .2)
+    (going-kept t (l .g) (l .at) (l .line) (l .inv .3), e .end-at .ensures .0, e .end-at .ensures .1, e .end-at .ensures .2, l .inv .0)
 
 enum-known-judged : tie.Need-enum-known-judged Inv-loop μ-loop
 enum-known-judged c = search needs

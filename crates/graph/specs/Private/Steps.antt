@@ -1,22 +1,24 @@
 -- What the private functions of the reader promise. Assumes nothing.
 use Prim.Native.Nat.{ℕ, _+_, _-_, _≤_, _/_, _%_}
 use mathlib.Core.Path.{_≡_}
-use mathlib.Core.Bool.{Bool, true, false, not, cond}
+use mathlib.Core.Bool.{Bool, true, false, not, cond, _&&_}
 use mathlib.Core.List.{List, [], _∷_, _++_, map}
-use lib.Dec.{ltb}
+use lib.Dec.{ltb, leb, eqb}
 use lib.ListN.{length, take, drop, set}
 use Rattle.formula.specs.Classes.{pick}
 use Rattle.assertion.specs.Lists.{any}
-use Rattle.assertion.specs.Graph.{Bytes, Graph}
+use Rattle.assertion.specs.Graph.{Bytes, Name, Graph}
 use Rattle.assertion.specs.declared.Mode.{Mode}
 use Rattle.assertion.specs.declared.Mode.the-variants.{Unsaid, Terminal, Strong}
-use Rattle.graph.specs.Pieces.{endAt, pieceAt, lookUp}
+use Rattle.graph.specs.Pieces.{endAt, pieceAt, Declared, lookUpName}
 use Rattle.graph.specs.Records.{Record, shapeless, mode, signal, constant, vertex, edge, marked, edged, recordOf}
 use Rattle.graph.specs.Reading.{Step, fault, went, modeLines, addMode, namesOf, judgedFormula, lower, judgeEdge, addEdge, add}
-use Rattle.graph.specs.Held.{lineStart, lineOf, fieldStart, fieldAt, fieldLength, namePlaces, heldAs}
+use Rattle.graph.specs.Meaning.{IsWidth, EachWidth}
+use Rattle.graph.specs.Held.{declaredIn, lineStart, lineOf, fieldStart, fieldAt, fieldLength, namePlaces, symbolWord, symbolsOf, heldAs}
 use Rattle.graph.specs.declared.Fault.{Fault}
 use Rattle.graph.specs.declared.Judged.{Judged}
 use Rattle.graph.specs.declared.Judged.the-variants.{Fine, Faulty}
+use Rattle.graph.specs.declared.FoundName.{FoundName}
 use Rattle.graph.specs.declared.Arc.{Arc}
 use Rattle.graph.specs.declared.CheckedGraph.{CheckedGraph}
 use Rattle.graph.specs.declared.Added.{Added}
@@ -24,29 +26,59 @@ use Rattle.graph.specs.declared.Shape.{Shape}
 use Rattle.graph.specs.declared.Shape.the-variants as shape
 
 -- ---- names and words
--- the names that start at some places of a text: each is the last field of its line
-abbrev pub held : Bytes → List ℕ → List Bytes
-held text starts = map (pieceAt 10 text) starts
+-- the vertices whose names start at some places of a text: each is the last field of its line
+abbrev pub points : Bytes → List ℕ → List Bytes
+points text starts = map (pieceAt 10 text) starts
 
 -- the first count of them
-abbrev pub listed : Bytes → List ℕ → ℕ → List Bytes
-listed text starts count = held text (take count starts)
+abbrev pub pointed : Bytes → List ℕ → ℕ → List Bytes
+pointed text starts count = points text (take count starts)
 
--- a word of a formula below 4096 is a name: 16 times its first place, and its length
-unfoldable pub wordKnown : List Bytes → Bytes → ℕ → Bool
-wordKnown ns s w = pick (ltb w 4096) (lookUp (take (w % 16) (drop (w / 16) s)) ns .known) true
+-- signals and constants, whose names stand in a text
+abbrev pub held : Bytes → List ℕ → List Declared
+held text symbols = map (declaredIn text) symbols
 
-unfoldable pub wordsKnown : List Bytes → Bytes → List ℕ → Bool
-wordsKnown ns s [] = true
-wordsKnown ns s (w ∷ ws) = pick (wordKnown ns s w) (wordsKnown ns s ws) false
+-- the first count of them
+abbrev pub listed : Bytes → List ℕ → ℕ → List Declared
+listed text symbols count = held text (take count symbols)
+
+-- no name has more than 16 bits
+abbrev pub EachNarrow : List Declared → Type 0
+EachNarrow [] = Unit {0}
+EachNarrow (d ∷ ds) = (d .width ≤ 16) × EachNarrow ds
+
+-- the name that a word below 4096 gives: 16 times its first place, and its length
+abbrev pub nameFound : List Declared → Bytes → ℕ → FoundName
+nameFound ns s w = lookUpName (take (w % 16) (drop (w / 16) s)) ns
+
+-- a word below 4096 is a name, then come bytes, from 8192 on one bit of a name, and from 16,777,216 on two names;
+-- its names are in the list
+unfoldable pub wordKnown : List Declared → Bytes → ℕ → Bool
+wordKnown ns s w =
+    pick (leb 4096 w && ltb w 8192) true
+    (pick (leb 16777216 w) (pick (nameFound ns s ((w - 16777216) / 4096) .known) (nameFound ns s (w % 4096) .known) false)
+    (nameFound ns s (w % 4096) .known))
+
+-- a name by itself has one bit, a bit is below its name's width, and two names have equal widths
+unfoldable pub wordFits : List Declared → Bytes → ℕ → Bool
+wordFits ns s w =
+    pick (leb 4096 w && ltb w 8192) true
+    (pick (ltb w 4096) (eqb (nameFound ns s (w % 4096) .width) 1)
+    (pick (ltb w 16777216) (ltb (w / 8192 - 1) (nameFound ns s (w % 4096) .width))
+    (eqb (nameFound ns s ((w - 16777216) / 4096) .width) (nameFound ns s (w % 4096) .width))))
+
+-- every word passes a test
+unfoldable pub allWords : (ℕ → Bool) → List ℕ → Bool
+allWords test [] = true
+allWords test (w ∷ ws) = pick (test w) (allWords test ws) false
 
 -- ---- shapes
 -- the record of a line by the places of its fields
 unfoldable pub viewed : Bytes → Shape → Record
 viewed line shape.Wrong = shapeless
 viewed line (shape.Moded m) = mode m
-viewed line (shape.Signal p) = signal (drop p line)
-viewed line (shape.Constant p) = constant (drop p line)
+viewed line (shape.Signal p n w) = signal (take n (drop p line)) w
+viewed line (shape.Constant p n w) = constant (take n (drop p line)) w
 viewed line (shape.Vertex p) = vertex (drop p line)
 viewed line (shape.Edge f t m a c) =
     edge (pieceAt 9 line f) (pieceAt 9 line t) m (pieceAt 9 line a) (pieceAt 9 line c)
@@ -55,12 +87,16 @@ viewed line (shape.Edge f t m a c) =
 abbrev pub FieldOf : Bytes → ℕ → ℕ → Type 0
 FieldOf line k p = (p ≤ length line) × (p ≡ fieldStart line k)
 
+-- a place and a length are those of field 1
+abbrev pub NameOf : Bytes → ℕ → ℕ → Type 0
+NameOf line p n = FieldOf line 1 p × (n ≡ fieldLength line 1)
+
 -- a name is field 1, and the formulas are fields 4 and 5
 abbrev pub Placed : Bytes → Shape → Type 0
 Placed line shape.Wrong = Unit {0}
 Placed line (shape.Moded m) = Unit {0}
-Placed line (shape.Signal p) = FieldOf line 1 p
-Placed line (shape.Constant p) = FieldOf line 1 p
+Placed line (shape.Signal p n w) = NameOf line p n × IsWidth w × (n ≤ 15)
+Placed line (shape.Constant p n w) = NameOf line p n × IsWidth w × (n ≤ 15)
 Placed line (shape.Vertex p) = FieldOf line 1 p
 Placed line (shape.Edge f t m a c) = FieldOf line 4 a × FieldOf line 5 c
 
@@ -90,11 +126,13 @@ writtenOf text graph = heldAs (λ e. e .marked) text graph
 -- the arrays hold a graph, whose names stand in the text where they say
 pub record Holds (text : Bytes) (g : CheckedGraph) (graph : Graph) : Type 0 where
   pub arrays : g ≡ writtenOf text graph
-  pub names : held text (namePlaces text (modeLines (graph .mode)) (namedOf graph)) ≡ namesOf graph
-  pub points : held text (namePlaces text (modeLines (graph .mode) + namedOf graph) (length (graph .vertices))) ≡ graph .vertices
+  pub names : held text (symbolsOf text (modeLines (graph .mode)) 0 (graph .signals ++ graph .constants)) ≡ namesOf graph
+  pub widths : EachWidth (graph .signals ++ graph .constants)
+  pub vertices : points text (namePlaces text (modeLines (graph .mode) + namedOf graph) (length (graph .vertices))) ≡ graph .vertices
 
 -- the counts keep to the limits
 pub record Kept (g : CheckedGraph) : Type 0 where
+  pub named-few : g .named ≤ g .signals + g .constants
   pub signals-few : g .signals ≤ 63
   pub constants-few : g .constants ≤ 6
   pub vertices-few : g .vertices ≤ 64
@@ -107,9 +145,13 @@ leftOf text e = take (e .lefts) (drop (e .left) text)
 abbrev pub rightOf : Bytes → Arc → Bytes
 rightOf text e = take (e .rights) (drop (e .right) text)
 
+-- no name of the graph has more than 16 bits
+abbrev pub narrowIn : Bytes → CheckedGraph → Type 0
+narrowIn text g = EachNarrow (listed text (g .names) (g .named))
+
 abbrev pub judgedArc : Bytes → CheckedGraph → Arc → Judged
 judgedArc text g e =
-    let names = listed text (g .names) (g .signals + g .constants) in
+    let names = listed text (g .names) (g .named) in
     lower (judgedFormula names (leftOf text e)) (judgedFormula names (rightOf text e))
 
 -- an edge by the places of its formulas in its line, which starts at `at`
@@ -151,7 +193,13 @@ addedOf text g (went graph) = record { judged = Fine; graph = writtenOf text gra
 abbrev pub AddsMode : CheckedGraph → Mode → Added → Type 0
 AddsMode g m r = (text : Bytes) (graph : Graph) → Holds text g graph → r ≡ addedOf text g (addMode graph m)
 
--- of a name at p
+-- of a signal or a constant whose name of n bytes is at p
+abbrev pub AddsSymbol : Bytes → CheckedGraph → ℕ → ℕ → ℕ → (Graph → Bytes → ℕ → Step) → Added → Type 0
+AddsSymbol text g p n w step r =
+    (graph : Graph) → Holds text g graph → p ≡ fieldAt text (recordsOf graph) 1 → n ≡ fieldLength (lineOf text (recordsOf graph)) 1
+    → r ≡ addedOf text g (step graph (take n (drop p text)) w)
+
+-- of a vertex at p
 abbrev pub AddsName : Bytes → CheckedGraph → ℕ → (Graph → Bytes → Step) → Added → Type 0
 AddsName text g p step r =
     (graph : Graph) → Holds text g graph → p ≡ fieldAt text (recordsOf graph) 1 → r ≡ addedOf text g (step graph (pieceAt 10 text p))
@@ -176,6 +224,7 @@ abbrev pub withMode : CheckedGraph → Mode → CheckedGraph
 withMode g m =
     record {
       mode = m;
+      named = g .named;
       signals = g .signals;
       constants = g .constants;
       vertices = g .vertices;
@@ -185,28 +234,30 @@ withMode g m =
       arcs = g .arcs;
     }
 
-abbrev pub withSignal : CheckedGraph → ℕ → CheckedGraph
-withSignal g p =
+abbrev pub withSignal : CheckedGraph → ℕ → ℕ → ℕ → CheckedGraph
+withSignal g p n w =
     record {
       mode = g .mode;
-      signals = g .signals + 1;
+      named = g .named + 1;
+      signals = g .signals + w;
       constants = g .constants;
       vertices = g .vertices;
       edges = g .edges;
-      names = set (g .names) (g .signals) p;
+      names = set (g .names) (g .named) (symbolWord p n (g .signals) w);
       points = g .points;
       arcs = g .arcs;
     }
 
-abbrev pub withConstant : CheckedGraph → ℕ → CheckedGraph
-withConstant g p =
+abbrev pub withConstant : CheckedGraph → ℕ → ℕ → ℕ → CheckedGraph
+withConstant g p n w =
     record {
       mode = g .mode;
+      named = g .named + 1;
       signals = g .signals;
-      constants = g .constants + 1;
+      constants = g .constants + w;
       vertices = g .vertices;
       edges = g .edges;
-      names = set (g .names) (g .signals + g .constants) p;
+      names = set (g .names) (g .named) (symbolWord p n (g .signals + g .constants) w);
       points = g .points;
       arcs = g .arcs;
     }
@@ -215,6 +266,7 @@ abbrev pub withVertex : CheckedGraph → ℕ → CheckedGraph
 withVertex g p =
     record {
       mode = g .mode;
+      named = g .named;
       signals = g .signals;
       constants = g .constants;
       vertices = g .vertices + 1;
@@ -228,6 +280,7 @@ abbrev pub withEdge : CheckedGraph → Arc → CheckedGraph
 withEdge g e =
     record {
       mode = g .mode;
+      named = g .named;
       signals = g .signals;
       constants = g .constants;
       vertices = g .vertices;
@@ -258,6 +311,7 @@ abbrev pub withArcs : CheckedGraph → List Arc → CheckedGraph
 withArcs g arcs =
     record {
       mode = g .mode;
+      named = g .named;
       signals = g .signals;
       constants = g .constants;
       vertices = g .vertices;

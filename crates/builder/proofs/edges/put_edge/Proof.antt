@@ -9,9 +9,6 @@ use Rattle.builder.proofs.EdgeLaws as edge
 use Rattle.builder.proofs.edges.put_edge.Statement.{statement}
 use Rattle.builder.proofs.edges.put_edge.Tie as tie
 
-add-total : tie.Need-add-total
-add-total c = search needs
-
 part-requires : tie.Need-part-requires
 part-requires c κs = search needs
 
@@ -21,7 +18,7 @@ put-formula-requires c κs =
     let a = c .before .before .before .before .before .before .before .args in
     let p = c .before .before .before .before .before .before .before .pre in
     let e = edgeIn (a .text .now) (namesIn (a .text .now) (a .t5)) (a .t5 .signals) (a .a) in
-    rw (c .part .ensures) (p .0 .left-fine, omega arith, omega arith, room-first (edge.edge-first (a .t5 .signals) (a .n .0) (a .happy .0) (a .condemned .0) e _ _ refl refl) (p .3))
+    rw (c .part .ensures) (p .0 .left-fine, p .1, room-first (edge.edge-first (a .t5 .signals) (a .n .0) (a .happy .0) (a .condemned .0) e _ _ refl refl) (p .2))
 
 part-requires-2 : tie.Need-part-requires-2
 part-requires-2 c κs = search needs
@@ -35,10 +32,9 @@ put-formula-requires-2 c κs =
     let l = rw (c .before .before .before .before .before .before .before .before .part .ensures) at (c .before .before .before .before .before .before .before .put-formula .ensures) in
     rw (c .part2 .ensures) (
       p .0 .right-fine,
-      omega arith,
-      omega arith,
+      p .1,
       room-first (edge.edge-second (a .t5 .signals) (a .n .0) (a .happy .0) (a .condemned .0) e _ _ (l .0 .count) refl)
-          (room-second (edge.edge-first (a .t5 .signals) (a .n .0) (a .happy .0) (a .condemned .0) e _ _ (l .0 .count) refl) (p .3) (l .0)),
+          (room-second (edge.edge-first (a .t5 .signals) (a .n .0) (a .happy .0) (a .condemned .0) e _ _ (l .0 .count) refl) (p .2) (l .0)),
     )
 
 put-tokens-requires : tie.Need-put-tokens-requires
@@ -50,7 +46,7 @@ put-tokens-requires c κs =
     let l = rw (c .before .before .before .before .before .before .before .before .before .before .before .before .part .ensures) at (c .before .before .before .before .before .before .before .before .before .before .before .put-formula .ensures) in
     let r = rw (c .before .before .before .before .part2 .ensures) at (c .before .before .before .put-formula2 .ensures) in
     room-second (edge.edge-second (a .t5 .signals) (a .n .0) (a .happy .0) (a .condemned .0) e _ _ (l .0 .count) (r .0 .count))
-    (room-second (edge.edge-first (a .t5 .signals) (a .n .0) (a .happy .0) (a .condemned .0) e _ _ (l .0 .count) (r .0 .count)) (p .3) (l .0)) (r .0)
+    (room-second (edge.edge-first (a .t5 .signals) (a .n .0) (a .happy .0) (a .condemned .0) e _ _ (l .0 .count) (r .0 .count)) (p .2) (l .0)) (r .0)
 
 same-length : tie.Need-same-length
 same-length c = search needs
@@ -74,7 +70,6 @@ pub put-edge-spec : {M : Type 1} → statement M
 put-edge-spec =
     tie.close
     (tie.spec
-    add-total
     part-requires
     put-formula-requires
     part-requires-2

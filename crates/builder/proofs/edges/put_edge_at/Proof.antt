@@ -40,7 +40,7 @@ put-edge-requires c κs =
     let p = c .before .before .before .before .before .before .before .before .pre in
     let w = p .1 .each (a .i) (p .0) in
     let e = edge.edge-at (a .t6 .signals) (a .n .0) (a .t6 .vertices) (a .reached .now) (a .doomed .now) (a .text .now) (namesIn (a .text .now) (a .t6)) (getD (a .t6 .arcs) (a .i) noArc) (w .from) in
-    (w, p .1 .signals, p .1 .constants, rw e at (p .4))
+    (w, p .1 .bounded, rw e at (p .4))
 
 same-length : tie.Need-same-length
 same-length c = search needs

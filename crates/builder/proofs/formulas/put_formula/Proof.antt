@@ -13,8 +13,8 @@ put-words-requires : tie.Need-put-words-requires
 put-words-requires c κs =
     let r = c .before .before .before .before in
     let s = r .before .before .before .before .before in
-    let w = worded (listed (s .args .text .now) (s .args .starts .now) (s .args .total)) (s .args .field .now) (s .args .signals) (s .pre .0) (r .read .ensures .0) in
-    (s .pre .2, w .few, w .room, w .enough, rw (w .gates (s .args .n .0)) (s .pre .3))
+    let w = worded (listed (s .args .text .now) (s .args .symbols .now) (s .args .total)) (s .args .field .now) (s .args .signals) (s .pre .0) (s .pre .1) (r .read .ensures .0) in
+    (s .pre .1, w .few, w .room, w .enough, rw (w .gates (s .args .n .0)) (s .pre .2))
 
 same-length : tie.Need-same-length
 same-length c = search needs
@@ -23,7 +23,7 @@ returns : tie.Need-returns
 returns c =
     let r = c .before .before .before .before .before .before .before in
     let s = r .before .before .before .before .before in
-    let w = worded (listed (s .args .text .now) (s .args .starts .now) (s .args .total)) (s .args .field .now) (s .args .signals) (s .pre .0) (r .read .ensures .0) in
+    let w = worded (listed (s .args .text .now) (s .args .symbols .now) (s .args .total)) (s .args .field .now) (s .args .signals) (s .pre .0) (s .pre .1) (r .read .ensures .0) in
     let e = c .before .before .put-words .ensures in
     (rw (w .gates (s .args .n .0)) at (e .gates), e .top ∙ w .top (s .args .n .0))
 

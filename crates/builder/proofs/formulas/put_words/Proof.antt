@@ -12,10 +12,10 @@ use Rattle.builder.proofs.formulas.put_words.Statement.{statement}
 use Rattle.builder.proofs.formulas.put_words.Tie as tie
 
 abbrev Inv-loop : tie.InvT-loop
-Inv-loop out₀ f text starts total field words count stack₀ height₀ next₀ i₀ out stack height next i = (i ≤ count) × Running (listed text starts total) field (take count words) (f .0) out₀ (next₀ .0) out stack (next .0) height i
+Inv-loop out₀ f text symbols total field words count stack₀ height₀ next₀ i₀ out stack height next i = (i ≤ count) × Running (listed text symbols total) field (take count words) (f .0) out₀ (next₀ .0) out stack (next .0) height i
 
 abbrev μ-loop : tie.MeasureT-loop
-μ-loop out₀ f text starts total field words count stack₀ height₀ next₀ i₀ out stack height next i = count - i
+μ-loop out₀ f text symbols total field words count stack₀ height₀ next₀ i₀ out stack height next i = count - i
 
 loop-holds : tie.Need-loop-holds Inv-loop μ-loop
 loop-holds c =

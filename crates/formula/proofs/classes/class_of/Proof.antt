@@ -8,7 +8,7 @@ use lib.ListN.{getD, replicate}
 use borrow.Author.Tests.{ne-eqb}
 use Rattle.formula.specs.Classes.{pick, classOf}
 use Rattle.formula.specs.declared.Class.{Class}
-use Rattle.formula.specs.declared.Class.the-variants.{Other, Letter, Digit, Underscore, Operator, Opening, Closing, Tab, Lf}
+use Rattle.formula.specs.declared.Class.the-variants.{Other, Letter, Digit, Underscore, Operator, Opening, Closing, OpeningSquare, ClosingSquare, Tab, Lf}
 use Rattle.formula.proofs.Table.{at}
 use borrow.Author.Needs.{needs}
 use Rattle.formula.proofs.classes.class_of.Statement.{statement}
@@ -23,11 +23,13 @@ classAt n =
     (pick (eqb n 4) Operator
     (pick (eqb n 5) Opening
     (pick (eqb n 6) Closing
+    (pick (eqb n 9) OpeningSquare
+    (pick (eqb n 10) ClosingSquare
     (pick (eqb n 7) Tab
-    (pick (eqb n 8) Lf Other)))))))
+    (pick (eqb n 8) Lf Other)))))))))
 
-other : (n : ℕ) → (n ≡ 1 → ⊥) → (n ≡ 2 → ⊥) → (n ≡ 3 → ⊥) → (n ≡ 4 → ⊥) → (n ≡ 5 → ⊥) → (n ≡ 6 → ⊥) → (n ≡ 7 → ⊥) → (n ≡ 8 → ⊥) → classAt n ≡ Other
-other n h1 h2 h3 h4 h5 h6 h7 h8 = simp (ne-eqb n 1 h1, ne-eqb n 2 h2, ne-eqb n 3 h3, ne-eqb n 4 h4, ne-eqb n 5 h5, ne-eqb n 6 h6, ne-eqb n 7 h7, ne-eqb n 8 h8)
+other : (n : ℕ) → (n ≡ 1 → ⊥) → (n ≡ 2 → ⊥) → (n ≡ 3 → ⊥) → (n ≡ 4 → ⊥) → (n ≡ 5 → ⊥) → (n ≡ 6 → ⊥) → (n ≡ 9 → ⊥) → (n ≡ 10 → ⊥) → (n ≡ 7 → ⊥) → (n ≡ 8 → ⊥) → classAt n ≡ Other
+other n h1 h2 h3 h4 h5 h6 h9 h10 h7 h8 = simp (ne-eqb n 1 h1, ne-eqb n 2 h2, ne-eqb n 3 h3, ne-eqb n 4 h4, ne-eqb n 5 h5, ne-eqb n 6 h6, ne-eqb n 9 h9, ne-eqb n 10 h10, ne-eqb n 7 h7, ne-eqb n 8 h8)
 
 numberOf : Class → ℕ
 numberOf Other = 0
@@ -37,6 +39,8 @@ numberOf Underscore = 3
 numberOf Operator = 4
 numberOf Opening = 5
 numberOf Closing = 6
+numberOf OpeningSquare = 9
+numberOf ClosingSquare = 10
 numberOf Tab = 7
 numberOf Lf = 8
 
@@ -49,6 +53,8 @@ back Underscore = refl
 back Operator = refl
 back Opening = refl
 back Closing = refl
+back OpeningSquare = refl
+back ClosingSquare = refl
 back Tab = refl
 back Lf = refl
 
@@ -59,7 +65,7 @@ of n x = replicate n x
 classes : List ℕ
 classes =
     of 9 0 ++ (7 ∷ 8 ∷ []) ++ of 22 0 ++ (4 ∷ []) ++ of 4 0 ++ (4 ∷ 0 ∷ 5 ∷ 6 ∷ []) ++ of 6 0 ++ of 10 2 ++ of 3 0 ++ (4 ∷ []) ++ of 3 0
-    ++ of 26 1 ++ of 3 0 ++ (4 ∷ 3 ∷ 0 ∷ []) ++ of 26 1 ++ (0 ∷ 4 ∷ []) ++ of 131 0
+    ++ of 26 1 ++ (9 ∷ 0 ∷ 10 ∷ 4 ∷ 3 ∷ 0 ∷ []) ++ of 26 1 ++ (0 ∷ 4 ∷ []) ++ of 131 0
 
 right : ℕ → ℕ → Bool
 unfolding classOf numberOf
@@ -106,9 +112,17 @@ returns-8 c = sym (ap classAt (c .match .keys8)) ∙ entry _ (search needs)
 
 returns-9 : tie.Need-returns-9
 unfolding classes
-returns-9 c =
+returns-9 c = sym (ap classAt (c .match .keys9)) ∙ entry _ (search needs)
+
+returns-10 : tie.Need-returns-10
+unfolding classes
+returns-10 c = sym (ap classAt (c .match .keys10)) ∙ entry _ (search needs)
+
+returns-11 : tie.Need-returns-11
+unfolding classes
+returns-11 c =
     let r = c .match .rest in
-    sym (other _ (r .0 .0 .0 .0 .0 .0 .0 .1) (r .0 .0 .0 .0 .0 .0 .1) (r .0 .0 .0 .0 .0 .1) (r .0 .0 .0 .0 .1) (r .0 .0 .0 .1) (r .0 .0 .1) (r .0 .1) (r .1)) ∙ entry _ (search needs)
+    sym (other _ (r .0 .0 .0 .0 .0 .0 .0 .0 .0 .1) (r .0 .0 .0 .0 .0 .0 .0 .0 .1) (r .0 .0 .0 .0 .0 .0 .0 .1) (r .0 .0 .0 .0 .0 .0 .1) (r .0 .0 .0 .0 .0 .1) (r .0 .0 .0 .0 .1) (r .0 .0 .0 .1) (r .0 .0 .1) (r .0 .1) (r .1)) ∙ entry _ (search needs)
 
 pub class-of-spec : {M : Type 1} → statement M
 class-of-spec =
@@ -123,4 +137,6 @@ class-of-spec =
     returns-6
     returns-7
     returns-8
-    returns-9)
+    returns-9
+    returns-10
+    returns-11)

@@ -5,7 +5,7 @@ use mathlib.Core.List.{[], _∷_}
 use types.Run.{OneOf, miss}
 use denote.Enum.Declared.{tagOf}
 use Rattle.formula.specs.declared.Class.{Class}
-use Rattle.formula.specs.declared.Class.the-variants.{Other, Letter, Digit, Underscore, Operator, Opening, Closing, Tab, Lf}
+use Rattle.formula.specs.declared.Class.the-variants.{Other, Letter, Digit, Underscore, Operator, Opening, Closing, OpeningSquare, ClosingSquare, Tab, Lf}
 use Rattle.formula.proofs.Class.{the-type}
 use Rattle.formula.specs.Classes.{isLetter}
 use borrow.Author.Needs.{needs}
@@ -13,15 +13,17 @@ use Rattle.formula.proofs.classes.is_letter.Statement.{statement}
 use Rattle.formula.proofs.classes.is_letter.Tie as tie
 
 -- a class of another number is none of those tested
-others : (x : Class) → OneOf (0 ∷ 2 ∷ 3 ∷ 4 ∷ 5 ∷ 6 ∷ 7 ∷ 8 ∷ []) (tagOf the-type x) → isLetter x ≡ false
+others : (x : Class) → OneOf (0 ∷ 2 ∷ 3 ∷ 4 ∷ 5 ∷ 6 ∷ 7 ∷ 8 ∷ 9 ∷ 10 ∷ []) (tagOf the-type x) → isLetter x ≡ false
 unfolding isLetter
 others Other k = refl
-others Letter k = absurd (miss (0 ∷ 2 ∷ 3 ∷ 4 ∷ 5 ∷ 6 ∷ 7 ∷ 8 ∷ []) 1 tt k)
+others Letter k = absurd (miss (0 ∷ 2 ∷ 3 ∷ 4 ∷ 5 ∷ 6 ∷ 7 ∷ 8 ∷ 9 ∷ 10 ∷ []) 1 tt k)
 others Digit k = refl
 others Underscore k = refl
 others Operator k = refl
 others Opening k = refl
 others Closing k = refl
+others OpeningSquare k = refl
+others ClosingSquare k = refl
 others Tab k = refl
 others Lf k = refl
 

@@ -24,9 +24,7 @@ use Rattle.formula.specs.Private.Readers.{
   closedOf,
   countedOf,
   putOf,
-  namedOf,
 }
-use Rattle.formula.proofs.Runs.{run-inside}
 use Rattle.formula.proofs.Steps as steps
 use borrow.Fn.Kinds.{In}
 use borrow.Fn.PlainCycle.{Measures, is, falls, and}
@@ -206,7 +204,7 @@ operand-enum-told-4 : (t : ℕ) → operand-lts.Need-enum-told-4 (operand-calls 
 operand-enum-told-4 t c = search needs
 
 operand-name-requires : (t : ℕ) → operand-lts.Need-name-requires (operand-calls t) (operand-at t) operand.Post
-operand-name-requires t c κs = (c .before .before .before .before .before .before .before .pre .1, within-Name t (c .before))
+operand-name-requires t c κs = (c .before .before .before .before .before .before .before .pre .1, began-Name t (c .before))
 
 operand-enum-told-5 : (t : ℕ) → operand-lts.Need-enum-told-5 (operand-calls t) (operand-at t) operand.Post
 operand-enum-told-5 t c = search needs
@@ -269,12 +267,11 @@ operand-returns-4 t c =
     let w = c .before .before .name in
     let e = began-Name t (c .before .before .before .before) in
     let h = within-Name t (c .before .before .before .before) in (
-      subst (Bounds (length (p .s .now)) (p .at) (p .n)) (sym (w .ensures .0))
-          (steps.bounds-name (p .s .now) (p .at) (p .n) (steps.named (p .s .now) (p .at) e) (run-inside (p .s .now) (p .at) (omega arith))),
-      steps.leaf (p .s .now) (p .at) (p .out .now) (p .n) (w .last .1 .1 .0) (w .result) (nameOf (p .at) (run (drop (p .at) (p .s .now))))
+      w .ensures .0,
+      steps.leaf (p .s .now) (p .at) (p .out .now) (p .n) (w .last .1 .1 .0) (w .result) (nameOf (p .s .now) (p .at) (run (drop (p .at) (p .s .now))))
           (λ f. steps.operand-name f (p .s .now) (p .at) e)
           h
-          (steps.reads-name (p .s .now) (p .out .now) (w .last .1 .1 .0) (w .result) (p .at) (p .n) (w .ensures .0) (w .ensures .1)),
+          (w .ensures .1),
     )
 
 operand-returns-5 : (t : ℕ) → operand-lts.Need-returns-5 (operand-calls t) (operand-at t) operand.Post

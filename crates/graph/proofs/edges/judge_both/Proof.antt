@@ -3,9 +3,6 @@ use borrow.Author.Needs.{needs}
 use Rattle.graph.proofs.edges.judge_both.Statement.{statement}
 use Rattle.graph.proofs.edges.judge_both.Tie as tie
 
-add-total : tie.Need-add-total
-add-total c = search needs
-
 part-requires : tie.Need-part-requires
 part-requires c κs = search needs
 
@@ -24,13 +21,12 @@ lower-of-requires c κs = search needs
 returns : tie.Need-returns
 returns c =
     let j = c .before .before .before .before .before .before in
-    rw (← j .before .part .ensures, ← c .before .before .part2 .ensures, ← j .judge .ensures, ← c .before .judge2 .ensures) (c .lower-of .ensures)
+    λ narrow. rw (← j .before .part .ensures, ← c .before .before .part2 .ensures, ← j .judge .ensures narrow, ← c .before .judge2 .ensures narrow) (c .lower-of .ensures)
 
 pub judge-both-spec : {M : Type 1} → statement M
 judge-both-spec =
     tie.close
     (tie.spec
-    add-total
     part-requires
     judge-requires
     part-requires-2

@@ -1,10 +1,10 @@
 -- `graph::formulas::judge` meets its contract. Assumes nothing.
 use mathlib.Core.Path.{sym, _∙_}
-use borrow.Author.Tests.{not-true, not-false}
-use Rattle.graph.proofs.WordLaws.{judge-unformed, judge-formed}
 use mathlib.Core.List.{[]}
 use native.Mathlib.Omega.{arith}
 use borrow.Author.Needs.{needs}
+use borrow.Author.Tests.{not-true, not-false}
+use Rattle.graph.proofs.WordLaws.{judge-unformed, judge-formed}
 use Rattle.graph.proofs.formulas.judge.Statement.{statement}
 use Rattle.graph.proofs.formulas.judge.Tie as tie
 
@@ -12,10 +12,10 @@ read-requires : tie.Need-read-requires
 read-requires c κs = search needs
 
 returns : tie.Need-returns
-returns c = judge-unformed _ _ (c .before .read .ensures .0) (not-true _ (c .if1 .taken))
+returns c = λ narrow. judge-unformed _ _ (c .before .read .ensures .0) (not-true _ (c .if1 .taken))
 
 returns-2 : tie.Need-returns-2
-returns-2 c = judge-formed _ _ (c .before .before .read .ensures .0) (not-false _ (c .before .if1 .left)) .depth (omega arith)
+returns-2 c = λ narrow. judge-formed _ _ (c .before .before .read .ensures .0) (not-false _ (c .before .if1 .left)) .depth (omega arith)
 
 words-known-requires : tie.Need-words-known-requires
 words-known-requires c κs =
@@ -25,13 +25,34 @@ words-known-requires c κs =
 returns-3 : tie.Need-returns-3
 returns-3 c =
     let i = c .before .before .before .before .before in
-    judge-formed _ _ (i .before .before .read .ensures .0) (not-false _ (i .before .if1 .left)) .names (sym (c .if3 .taken) ∙ c .before .words-known .ensures) (omega arith)
+    λ narrow. judge-formed _ _ (i .before .before .read .ensures .0) (not-false _ (i .before .if1 .left)) .unknown (sym (not-true _ (c .if3 .taken)) ∙ c .before .words-known .ensures) (omega arith)
+
+words-fit-requires : tie.Need-words-fit-requires
+words-fit-requires c κs =
+    let i = c .before .before .before .before .before .before .before .before in
+    judge-formed [] _ (i .before .before .read .ensures .0) (not-false _ (i .before .if1 .left)) .room
 
 returns-4 : tie.Need-returns-4
 returns-4 c =
-    let i = c .before .before .before .before .before in
-    judge-formed _ _ (i .before .before .read .ensures .0) (not-false _ (i .before .if1 .left)) .names (sym (c .if3 .left) ∙ c .before .words-known .ensures) (omega arith)
+    let k = c .before .before .before .before .before in
+    let i = k .before .before .before .before .before in
+    judge-formed _ _ (i .before .before .read .ensures .0) (not-false _ (i .before .if1 .left)) .widths (sym (not-false _ (k .if3 .left)) ∙ k .before .words-known .ensures) (sym (not-true _ (c .if4 .taken)) ∙ c .before .words-fit .ensures) (omega arith)
+
+returns-5 : tie.Need-returns-5
+returns-5 c =
+    let k = c .before .before .before .before .before in
+    let i = k .before .before .before .before .before in
+    judge-formed _ _ (i .before .before .read .ensures .0) (not-false _ (i .before .if1 .left)) .widths (sym (not-false _ (k .if3 .left)) ∙ k .before .words-known .ensures) (sym (not-false _ (c .if4 .left)) ∙ c .before .words-fit .ensures) (omega arith)
 
 pub judge-spec : {M : Type 1} → statement M
 judge-spec =
-    tie.close (tie.spec read-requires returns returns-2 words-known-requires returns-3 returns-4)
+    tie.close
+    (tie.spec
+    read-requires
+    returns
+    returns-2
+    words-known-requires
+    returns-3
+    words-fit-requires
+    returns-4
+    returns-5)

@@ -5,16 +5,16 @@ use native.Mathlib.Omega.{arith}
 use lib.ListN.{take, drop}
 use borrow.Author.Needs.{needs}
 use borrow.Author.Tests.{not-true, not-false}
-use Rattle.graph.specs.Private.Steps.{wordsKnown, held}
+use Rattle.graph.specs.Private.Steps.{wordKnown, allWords, held}
 use Rattle.graph.proofs.WordLaws.{words-not, words-more, words-end}
 use Rattle.graph.proofs.formulas.words_known.Statement.{statement}
 use Rattle.graph.proofs.formulas.words_known.Tie as tie
 
 abbrev Inv-loop : tie.InvT-loop
-Inv-loop text starts total s words n i₀ i = (i ≤ n) × (wordsKnown (held text (take total starts)) s (drop i (take n words)) ≡ wordsKnown (held text (take total starts)) s (take n words))
+Inv-loop text symbols total s words n i₀ i = (i ≤ n) × (allWords (wordKnown (held text (take total symbols)) s) (drop i (take n words)) ≡ allWords (wordKnown (held text (take total symbols)) s) (take n words))
 
 abbrev μ-loop : tie.MeasureT-loop
-μ-loop text starts total s words n i₀ i = n - i
+μ-loop text symbols total s words n i₀ i = n - i
 
 loop-holds : tie.Need-loop-holds Inv-loop μ-loop
 loop-holds c = search needs
@@ -35,7 +35,7 @@ returns : tie.Need-returns Inv-loop μ-loop
 returns c =
     let l = c .before .before .before .before in
     let a = l .before .before .before .before .before in
-    sym (words-not _ _ (a .args .words .now) (a .args .n) (l .loop .i) (a .pre) (c .before .before .before .loop-test .taken) (c .before .word-known .ensures) (not-true _ (c .if1 .taken))) ∙ l .loop .inv .1
+    sym (words-not _ (a .args .words .now) (a .args .n) (l .loop .i) (a .pre) (c .before .before .before .loop-test .taken) (c .before .word-known .ensures) (not-true _ (c .if1 .taken))) ∙ l .loop .inv .1
 
 add-i : tie.Need-add-i Inv-loop μ-loop
 add-i c = search needs
@@ -48,14 +48,14 @@ loop-again c =
     let l = c .before .before .before .before in
     let a = l .before .before .before .before .before in (
       search needs,
-      sym (words-more _ _ (a .args .words .now) (a .args .n) (l .loop .i) (a .pre) (c .before .before .before .loop-test .taken) (c .before .word-known .ensures) (not-false _ (c .if1 .left))) ∙ l .loop .inv .1,
+      sym (words-more _ (a .args .words .now) (a .args .n) (l .loop .i) (a .pre) (c .before .before .before .loop-test .taken) (c .before .word-known .ensures) (not-false _ (c .if1 .left))) ∙ l .loop .inv .1,
     )
 
 returns-2 : tie.Need-returns-2 Inv-loop μ-loop
 returns-2 c =
     let l = c .before in
     let a = l .before .before .before .before .before in
-    sym (words-end _ _ (a .args .words .now) (a .args .n) (l .loop .i) (a .pre) (c .loop-test .left)) ∙ l .loop .inv .1
+    sym (words-end _ (a .args .words .now) (a .args .n) (l .loop .i) (a .pre) (c .loop-test .left)) ∙ l .loop .inv .1
 
 pub words-known-spec : {M : Type 1} → statement M
 words-known-spec =

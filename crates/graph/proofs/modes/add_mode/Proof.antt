@@ -17,15 +17,12 @@ add-if1-2 c = search needs
 add-if1-3 : tie.Need-add-if1-3
 add-if1-3 c = search needs
 
-add-if1-4 : tie.Need-add-if1-4
-add-if1-4 c = search needs
-
 faulty-requires : tie.Need-faulty-requires
 faulty-requires c κs = search needs
 
 returns : tie.Need-returns
 returns c =
-    let m = c .before .before .before .before .before .before .mode-lines in
+    let m = c .before .before .before .before .before .mode-lines in
     λ text graph h. c .faulty .ensures ∙ mode-late text _ graph h _ (m .ensures .0) (c .before .if1 .taken)
 
 with-mode-requires : tie.Need-with-mode-requires
@@ -33,7 +30,7 @@ with-mode-requires c κs = search needs
 
 returns-2 : tie.Need-returns-2
 returns-2 c =
-    let m = c .before .before .before .before .before .before .mode-lines in
+    let m = c .before .before .before .before .before .mode-lines in
     λ text graph h. rw (c .with-mode .ensures) (mode-new text _ graph h _ (m .ensures .0) (c .before .if1 .left))
 
 pub add-mode-spec : {M : Type 1} → statement M
@@ -44,7 +41,6 @@ add-mode-spec =
     add-if1
     add-if1-2
     add-if1-3
-    add-if1-4
     faulty-requires
     returns
     with-mode-requires

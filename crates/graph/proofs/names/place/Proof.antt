@@ -5,13 +5,13 @@ use native.Mathlib.Omega.{arith}
 use borrow.Author.Needs.{needs}
 use lib.ListN.{take, drop}
 use Rattle.graph.specs.Pieces.{placeOf}
-use Rattle.graph.specs.Private.Steps.{held}
+use Rattle.graph.specs.Private.Steps.{points}
 use Rattle.graph.proofs.NameLaws.{place-found, place-later, place-end}
 use Rattle.graph.proofs.names.place.Statement.{statement}
 use Rattle.graph.proofs.names.place.Tie as tie
 
 abbrev Inv-loop : tie.InvT-loop
-Inv-loop text starts count name k₀ k = (k ≤ count) × (k + placeOf name (held text (drop k (take count starts))) ≡ placeOf name (held text (take count starts)))
+Inv-loop text starts count name k₀ k = (k ≤ count) × (k + placeOf name (points text (drop k (take count starts))) ≡ placeOf name (points text (take count starts)))
 
 abbrev μ-loop : tie.MeasureT-loop
 μ-loop text starts count name k₀ k = count - k

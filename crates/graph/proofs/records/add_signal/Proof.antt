@@ -17,7 +17,10 @@ faulty-requires c κs = search needs
 returns : tie.Need-returns
 returns c =
     let s = c .before .before .before in
-    λ graph h q. rw (c .faulty .ensures) (signal-late (s .args .text .now) (s .args .t2) graph h _ (omega arith))
+    λ graph h q i. rw (c .faulty .ensures) (signal-late (s .args .text .now) (s .args .t2) graph h _ _ (omega arith))
+
+add-if2 : tie.Need-add-if2
+add-if2 c = search needs
 
 faulty-requires-2 : tie.Need-faulty-requires-2
 faulty-requires-2 c κs = search needs
@@ -25,16 +28,13 @@ faulty-requires-2 c κs = search needs
 returns-2 : tie.Need-returns-2
 returns-2 c =
     let s = c .before .before .before .before in
-    λ graph h q. rw (c .faulty2 .ensures) (signal-many (s .args .text .now) (s .args .t2) graph h _ (omega arith) (c .before .if2 .taken))
+    λ graph h q i. rw (c .faulty2 .ensures) (signal-many (s .args .text .now) (s .args .t2) graph h _ _ (omega arith) (c .before .if2 .taken))
 
-add-total : tie.Need-add-total
-add-total c = search needs
+part-requires : tie.Need-part-requires
+part-requires c κs = search needs
 
-piece-requires : tie.Need-piece-requires
-piece-requires c κs = search needs
-
-look-up-requires : tie.Need-look-up-requires
-look-up-requires c κs = search needs
+look-up-name-requires : tie.Need-look-up-name-requires
+look-up-name-requires c κs = search needs
 
 faulty-requires-3 : tie.Need-faulty-requires-3
 faulty-requires-3 c κs = search needs
@@ -43,16 +43,21 @@ returns-3 : tie.Need-returns-3
 returns-3 c =
     let j = c .before .before .before .before .before .before .before in
     let s = j .before .before .before in
-    λ graph h q. rw (c .faulty3 .ensures) (signal-again (s .args .text .now) (s .args .t2) graph h _ (j .before .if1 .left) (j .if2 .left) (c .before .before .before .piece .ensures) (c .before .before .look-up .ensures) (c .before .if3 .taken))
+    λ graph h q i. rw (c .faulty3 .ensures) (signal-again (s .args .text .now) (s .args .t2) graph h _ _ (j .before .if1 .left) (j .if2 .left) (c .before .before .before .part .ensures) (c .before .before .look-up-name .ensures) (c .before .if3 .taken))
 
 with-signal-requires : tie.Need-with-signal-requires
-with-signal-requires c κs = search needs
+with-signal-requires c κs =
+    let j = c .before .before .before .before .before .before in
+    let s = j .before .before .before in
+    omega (arith, s .pre .0 .named-few, s .pre .0 .signals-few, s .pre .0 .constants-few, s .pre .1 .some, s .pre .1 .most, s .pre .2, s .pre .3, j .if2 .left)
 
 returns-4 : tie.Need-returns-4
 returns-4 c =
     let j = c .before .before .before .before .before .before .before in
     let s = j .before .before .before in
-    λ graph h q. rw (c .with-signal .ensures) (signal-new (s .args .text .now) (s .args .t2) graph h _ (j .before .if1 .left) (j .if2 .left) (c .before .before .before .piece .ensures) (c .before .before .look-up .ensures) _ q (c .before .if3 .left))
+    λ graph h q i.
+    rw (c .with-signal .ensures)
+    (signal-new (s .args .text .now) (s .args .t2) graph h _ _ (j .before .if1 .left) (j .if2 .left) (c .before .before .before .part .ensures) (c .before .before .look-up-name .ensures) (omega (arith, s .pre .0 .named-few, s .pre .0 .signals-few, s .pre .0 .constants-few, s .pre .1 .some, j .if2 .left)) _ _ q i (c .before .if3 .left))
 
 pub add-signal-spec : {M : Type 1} → statement M
 add-signal-spec =
@@ -62,11 +67,11 @@ add-signal-spec =
     add-if1-2
     faulty-requires
     returns
+    add-if2
     faulty-requires-2
     returns-2
-    add-total
-    piece-requires
-    look-up-requires
+    part-requires
+    look-up-name-requires
     faulty-requires-3
     returns-3
     with-signal-requires

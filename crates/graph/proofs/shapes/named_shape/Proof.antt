@@ -1,7 +1,8 @@
 -- `graph::shapes::named_shape` meets its contract. Assumes nothing.
 use mathlib.Core.Path.{sym, _∙_}
+use native.Mathlib.Omega.{arith}
 use Rattle.graph.proofs.PieceLaws.{part-rest}
-use Rattle.graph.proofs.RecordLaws.{named-mode, named-not, named-signal, named-constant, named-vertex, named-none}
+use Rattle.graph.proofs.RecordLaws.{named-mode, named-vertex, named-not, named-sized}
 use borrow.Author.Needs.{needs}
 use Rattle.graph.proofs.shapes.named_shape.Statement.{statement}
 use Rattle.graph.proofs.shapes.named_shape.Tie as tie
@@ -30,7 +31,10 @@ returns c =
     let s = k .before .before .before .before in
     let a = s .args in
     let w = c .mode-shape .ensures (a .line .now) in
-    (w .0 ∙ named-mode (a .line .now) (a .at) (k .before .before .piece .ensures) (part-rest (a .line .now) (a .at) (s .pre .0)) (sym (k .before .is-byte .ensures) ∙ k .if1 .taken), w .1)
+    (w .0 ∙ named-mode (a .line .now) (a .at) (k .before .before .piece .ensures) (part-rest (a .line .now) (a .at) (s .pre .0 .0)) (sym (k .before .is-byte .ensures) ∙ k .if1 .taken), w .1)
+
+is-byte-requires-2 : tie.Need-is-byte-requires-2
+is-byte-requires-2 c κs = search needs
 
 sub-is-name : tie.Need-sub-is-name
 sub-is-name c = search needs
@@ -44,49 +48,38 @@ part-is-name-end c = search needs
 is-name-requires : tie.Need-is-name-requires
 is-name-requires c κs = search needs
 
-is-byte-requires-2 : tie.Need-is-byte-requires-2
-is-byte-requires-2 c κs = search needs
-
 returns-2 : tie.Need-returns-2
 returns-2 c =
-    let k = c .before .before .before .before .before in
+    let j = c .before .before .before in
+    let k = j .before .before in
     let s = k .before .before .before .before in
     let a = s .args in
-    (named-signal (a .line .now) (a .at) (k .before .before .piece .ensures) (part-rest (a .line .now) (a .at) (s .pre .0)) (sym (k .before .is-byte .ensures) ∙ k .if1 .left) (sym (c .before .before .before .is-name .ensures) ∙ c .before .before .if2 .taken) (sym (c .before .is-byte2 .ensures) ∙ c .if3 .taken), search needs)
-
-is-byte-requires-3 : tie.Need-is-byte-requires-3
-is-byte-requires-3 c κs = search needs
+    (named-vertex (a .line .now) (a .at) (k .before .before .piece .ensures) (part-rest (a .line .now) (a .at) (s .pre .0 .0)) (sym (k .before .is-byte .ensures) ∙ k .if1 .left) (sym (j .before .is-byte2 .ensures) ∙ j .if2 .taken) (sym (c .before .is-name .ensures) ∙ c .if3 .taken), s .pre .0)
 
 returns-3 : tie.Need-returns-3
 returns-3 c =
-    let k = c .before .before .before .before .before .before .before in
+    let j = c .before .before .before in
+    let k = j .before .before in
     let s = k .before .before .before .before in
     let a = s .args in
-    (named-constant (a .line .now) (a .at) (k .before .before .piece .ensures) (part-rest (a .line .now) (a .at) (s .pre .0)) (sym (k .before .is-byte .ensures) ∙ k .if1 .left) (sym (c .before .before .before .before .before .is-name .ensures) ∙ c .before .before .before .before .if2 .taken) (sym (c .before .before .before .is-byte2 .ensures) ∙ c .before .before .if3 .left) (sym (c .before .is-byte3 .ensures) ∙ c .if4 .taken), search needs)
+    (named-not (a .line .now) (a .at) (k .before .before .piece .ensures) (part-rest (a .line .now) (a .at) (s .pre .0 .0)) (sym (k .before .is-byte .ensures) ∙ k .if1 .left) (sym (j .before .is-byte2 .ensures) ∙ j .if2 .taken) (sym (c .before .is-name .ensures) ∙ c .if3 .left), tt)
 
-is-byte-requires-4 : tie.Need-is-byte-requires-4
-is-byte-requires-4 c κs = search needs
+sub-sized-shape : tie.Need-sub-sized-shape
+sub-sized-shape c = search needs
+
+sized-shape-requires : tie.Need-sized-shape-requires
+sized-shape-requires c κs = (c .before .before .before .before .before .before .pre, omega arith)
 
 returns-4 : tie.Need-returns-4
 returns-4 c =
-    let k = c .before .before .before .before .before .before .before .before .before in
+    let j = c .before in
+    let k = j .before .before in
     let s = k .before .before .before .before in
-    let a = s .args in
-    (named-vertex (a .line .now) (a .at) (k .before .before .piece .ensures) (part-rest (a .line .now) (a .at) (s .pre .0)) (sym (k .before .is-byte .ensures) ∙ k .if1 .left) (sym (c .before .before .before .before .before .before .before .is-name .ensures) ∙ c .before .before .before .before .before .before .if2 .taken) (sym (c .before .before .before .before .before .is-byte2 .ensures) ∙ c .before .before .before .before .if3 .left) (sym (c .before .before .before .is-byte3 .ensures) ∙ c .before .before .if4 .left) (sym (c .before .is-byte4 .ensures) ∙ c .if5 .taken), search needs)
-
-returns-5 : tie.Need-returns-5
-returns-5 c =
-    let k = c .before .before .before .before .before .before .before .before .before in
-    let s = k .before .before .before .before in
-    let a = s .args in
-    (named-none (a .line .now) (a .at) (k .before .before .piece .ensures) (part-rest (a .line .now) (a .at) (s .pre .0)) (sym (k .before .is-byte .ensures) ∙ k .if1 .left) (sym (c .before .before .before .before .before .before .before .is-name .ensures) ∙ c .before .before .before .before .before .before .if2 .taken) (sym (c .before .before .before .before .before .is-byte2 .ensures) ∙ c .before .before .before .before .if3 .left) (sym (c .before .before .before .is-byte3 .ensures) ∙ c .before .before .if4 .left) (sym (c .before .is-byte4 .ensures) ∙ c .if5 .left), search needs)
-
-returns-6 : tie.Need-returns-6
-returns-6 c =
-    let k = c .before .before .before in
-    let s = k .before .before .before .before in
-    let a = s .args in
-    (named-not (a .line .now) (a .at) (k .before .before .piece .ensures) (part-rest (a .line .now) (a .at) (s .pre .0)) (sym (k .before .is-byte .ensures) ∙ k .if1 .left) (sym (c .before .is-name .ensures) ∙ c .if2 .left), search needs)
+    let a = s .args in (
+      c .sized-shape .ensures .0
+          ∙ named-sized (a .line .now) (a .at) (k .before .before .piece .ensures) (s .pre .0 .0) (sym (k .before .is-byte .ensures) ∙ k .if1 .left) (sym (j .before .is-byte2 .ensures) ∙ j .if2 .left),
+      c .sized-shape .ensures .1,
+    )
 
 pub named-shape-spec : {M : Type 1} → statement M
 named-shape-spec =
@@ -99,15 +92,13 @@ named-shape-spec =
     part-mode-shape-end
     mode-shape-requires
     returns
+    is-byte-requires-2
     sub-is-name
     part-is-name-start
     part-is-name-end
     is-name-requires
-    is-byte-requires-2
     returns-2
-    is-byte-requires-3
     returns-3
-    is-byte-requires-4
-    returns-4
-    returns-5
-    returns-6)
+    sub-sized-shape
+    sized-shape-requires
+    returns-4)

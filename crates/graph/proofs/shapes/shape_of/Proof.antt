@@ -1,5 +1,6 @@
 -- `graph::shapes::shape_of` meets its contract. Assumes nothing.
-use Rattle.graph.proofs.RecordLaws.{field-one, field-next, fields-1, fields-2, fields-3, fields-4, fields-5, fields-6, fields-7}
+use Rattle.graph.proofs.RecordLaws.{field-one, field-next, field-long, fields-1, fields-2, fields-3, fields-4, fields-5, fields-6, fields-7}
+use Rattle.graph.proofs.WidthFieldLaws.{width-most}
 use mathlib.Core.Path.{sym, _∙_}
 use borrow.Author.Needs.{needs}
 use Rattle.graph.proofs.shapes.shape_of.Statement.{statement}
@@ -23,7 +24,9 @@ add-named-shape c = search needs
 named-shape-requires : tie.Need-named-shape-requires
 named-shape-requires c κs =
     let i1 = c .before .before in
-    (search needs, field-one _ (i1 .before .end-at .ensures .0))
+    let s = i1 .before .before .before .args .line .now in
+    let f1 = field-one s (i1 .before .end-at .ensures .0) in
+    ((search needs, f1), field-long s 1 f1 (sym (c .if2 .taken) ∙ c .before .end-at2 .ensures .0))
 
 returns-2 : tie.Need-returns-2
 returns-2 c =
@@ -39,11 +42,47 @@ add-end-at-2 c = search needs
 end-at-requires-3 : tie.Need-end-at-requires-3
 end-at-requires-3 c κs = search needs
 
+add-width-of : tie.Need-add-width-of
+add-width-of c = search needs
+
+sub-width-of : tie.Need-sub-width-of
+sub-width-of c = search needs
+
+part-width-of-start : tie.Need-part-width-of-start
+part-width-of-start c = search needs
+
+part-width-of-end : tie.Need-part-width-of-end
+part-width-of-end c = search needs
+
+width-of-requires : tie.Need-width-of-requires
+width-of-requires c κs = search needs
+
+add-sized-shape : tie.Need-add-sized-shape
+add-sized-shape c = search needs
+
+add-sized-shape-2 : tie.Need-add-sized-shape-2
+add-sized-shape-2 c = search needs
+
+sub-sized-shape : tie.Need-sub-sized-shape
+sub-sized-shape c = search needs
+
+sized-shape-requires : tie.Need-sized-shape-requires
+sized-shape-requires c κs =
+    let i2 = c .before .before .before .before in
+    let i1 = i2 .before .before in
+    let s = i1 .before .before .before .args .line .now in
+    let f1 = field-one s (i1 .before .end-at .ensures .0) in
+    (((search needs, f1), field-long s 1 f1 (i2 .before .end-at2 .ensures .0)), rw (c .width-of .ensures) (width-most _))
+
 returns-3 : tie.Need-returns-3
 returns-3 c =
-    let i2 = c .before .before in
-    let i1 = i2 .before .before in
-    (fields-3 _ (i1 .before .end-at .ensures) (i1 .if1 .left) (i2 .before .end-at2 .ensures) (i2 .if2 .left) (c .before .end-at3 .ensures) (c .if3 .taken), search needs)
+    let i3 = c .before .before .before in
+    let i2 = i3 .before .before in
+    let i1 = i2 .before .before in (
+      c .sized-shape .ensures .0
+          ∙ fields-3 _ (i1 .before .end-at .ensures) (i1 .if1 .left) (i2 .before .end-at2 .ensures) (i2 .if2 .left) (i3 .before .end-at3 .ensures) (i3 .if3 .taken) (c .before .width-of .ensures),
+      c .sized-shape .ensures .1,
+    )
 
 add-end-at-3 : tie.Need-add-end-at-3
 add-end-at-3 c = search needs
@@ -146,6 +185,15 @@ shape-of-spec =
     returns-2
     add-end-at-2
     end-at-requires-3
+    add-width-of
+    sub-width-of
+    part-width-of-start
+    part-width-of-end
+    width-of-requires
+    add-sized-shape
+    add-sized-shape-2
+    sub-sized-shape
+    sized-shape-requires
     returns-3
     add-end-at-3
     end-at-requires-4

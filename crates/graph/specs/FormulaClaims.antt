@@ -1,0 +1,71 @@
+-- What the contract of read_graph claims of the names and widths in an edge's formulas, by what a formula means and
+-- without any look-up: which edges are refused with 9 and 19, and which are taken. Assumes nothing.
+use Prim.Native.Nat.{ℕ, _≤_, _<_}
+use Prim.Native.Char.{code}
+use mathlib.Core.Path.{_≡_}
+use mathlib.Core.Bool.{true}
+use mathlib.Core.List.{List, [], _∷_, _++_, List·Memᴰ}
+use lib.ListN.{length, take, drop}
+use Rattle.text.specs.Lines.{StartsLine}
+use Rattle.formula.specs.Classes.{isName}
+use Rattle.formula.specs.Grammar.{Tree, name, bitOf, alike, bit, not, group, join, depthOf}
+use Rattle.formula.specs.Claims.{IsFormula}
+use Rattle.assertion.specs.Graph.{Bytes, Run, Expr, Name, Graph}
+use Rattle.graph.specs.Reading.{accepted, graphOf}
+use Rattle.graph.specs.Meaning.{Named, Means}
+use Rattle.graph.specs.Claims.{IsField}
+use Rattle.graph.specs.ModeClaims.{IsMark, RefusedAfter}
+use Rattle.graph.specs.declared.GraphRead.{GraphRead}
+
+-- these bytes are the name of a signal or a constant
+pub record Known (ss cs : List Name) (n : Bytes) : Type 0 where
+  pub run : Run
+  pub width : ℕ
+  pub named : Named ss cs n run width
+
+-- so is each name of a tree, as it stands in the field s
+abbrev pub AllKnown : List Name → List Name → Bytes → Tree → Type 0
+AllKnown ss cs s (name p n) = Known ss cs (take n (drop p s))
+AllKnown ss cs s (bitOf p n i) = Known ss cs (take n (drop p s))
+AllKnown ss cs s (alike p n q m) = Known ss cs (take n (drop p s)) × Known ss cs (take m (drop q s))
+AllKnown ss cs s (bit b) = Unit {0}
+AllKnown ss cs s (not e) = AllKnown ss cs s e
+AllKnown ss cs s (group e) = AllKnown ss cs s e
+AllKnown ss cs s (join b e f) = AllKnown ss cs s e × AllKnown ss cs s f
+
+-- these bytes, a field, are the formula of a tree, at most 16 deep
+pub record Formed (s : Bytes) (e : Tree) : Type 0 where
+  pub field : IsField s
+  pub is : IsFormula s e
+  pub shallow : depthOf e ≤ 16
+
+-- an edge's line without its LF
+abbrev pub edgeLine : Bytes → Bytes → ℕ → Bytes → Bytes → Bytes
+edgeLine from to mark a c = code "E" ∷ code "\t" ∷ (from ++ (code "\t" ∷ (to ++ (code "\t" ∷ mark ∷ code "\t" ∷ (a ++ (code "\t" ∷ c))))))
+
+-- after these bytes, which are by themselves the text of a graph g with room for an edge, stands the line of an edge
+-- between its vertices, with two formulas
+pub record EdgeNext (text before : Bytes) (g : Graph) (a c : Bytes) (ea ec : Tree) : Type 0 where
+  pub from : Bytes
+  pub to : Bytes
+  pub mark : ℕ
+  pub after : Bytes
+  pub bytes : text ≡ before ++ (edgeLine from to mark a c ++ (code "\n" ∷ after))
+  pub starts : StartsLine before
+  pub read : graphOf before ≡ accepted g
+  pub room : length (g .edges) < 128
+  pub from-name : isName from ≡ true
+  pub to-name : isName to ≡ true
+  pub from-vertex : List·Memᴰ from (g .vertices)
+  pub to-vertex : List·Memᴰ to (g .vertices)
+  pub is-mark : IsMark mark
+  pub antecedent : Formed a ea
+  pub consequent : Formed c ec
+
+-- THE CLAIM of the answer r to a text
+pub record FormulaMeans (text : Bytes) (r : GraphRead) : Type 0 where
+  -- an unknown name is 9
+  pub unknown : (before : Bytes) (g : Graph) (a c : Bytes) (ea ec : Tree) → EdgeNext text before g a c ea ec → (AllKnown (g .signals) (g .constants) a ea × AllKnown (g .signals) (g .constants) c ec → ⊥) → length text ≤ 32768 → RefusedAfter before 9 r
+  -- "unequal widths, a bit beyond the width, or a wide name where one bit is due is 19, with the line of the formula,
+  -- after 9": the names are known, and one of the formulas means nothing
+  pub widths : (before : Bytes) (g : Graph) (a c : Bytes) (ea ec : Tree) → EdgeNext text before g a c ea ec → AllKnown (g .signals) (g .constants) a ea × AllKnown (g .signals) (g .constants) c ec → ((x y : Expr) → Means (g .signals) (g .constants) a ea x → Means (g .signals) (g .constants) c ec y → ⊥) → length text ≤ 32768 → RefusedAfter before 19 r

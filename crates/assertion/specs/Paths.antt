@@ -1,6 +1,6 @@
 -- What demand 3 counts: cycles that some setting and some rejecting path condemn. Nothing here knows of
 -- latches, gates, tokens or a tally. `T b` says that the test b passes. Assumes nothing.
-use Prim.Native.Nat.{ℕ, zero, suc, _+_, _<_}
+use Prim.Native.Nat.{ℕ, _+_, _<_}
 use mathlib.Core.Path.{_≡_}
 use mathlib.Core.Bool.{Bool, true, false, not, _&&_, _||_, cond}
 use mathlib.Core.List.{List, [], _∷_, _++_, List·Memᴰ}
@@ -8,7 +8,7 @@ use lib.ListN.{length}
 use lib.Dec.{T, eqb}
 use Rattle.assertion.specs.Lists.{any, lists, From}
 use Rattle.assertion.specs.declared.Mode.the-variants.{Unsaid, Strong}
-use Rattle.assertion.specs.Graph.{Run, signalsFrom, constantsFrom, Expr, signal, constant, alike, Edge, Graph, constantBits, Cycle, Setting, isTerminal, isInit, bitHolds, holds}
+use Rattle.assertion.specs.Graph.{Run, signalsFrom, constantsFrom, signal, constant, alike, Edge, Graph, constantBits, Cycle, Setting, isTerminal, isInit, bitHolds, holds}
 
 -- ---- the latest init
 -- A cycle's latest init is the last cycle up to it, itself included, whose init is `1`. Of the cycles

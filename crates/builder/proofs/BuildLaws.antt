@@ -1,17 +1,15 @@
 -- The pieces that the loops store are those of the monitor's definition. Assumes nothing.
 use mathlib.Core.Path.{_≡_, refl, sym, ap, subst, _∙_}
-use mathlib.Core.Bool.{Bool, true, false, not, cond}
+use mathlib.Core.Bool.{Bool, true, false, cond}
 use mathlib.Core.List.{List, [], _∷_, _++_, map, append-assoc}
 use Prim.Native.Nat.{ℕ, zero, suc, _+_, _*_}
 use native.Mathlib.Omega.{arith}
 use native.Mathlib.Numerals.{add-one}
 use lib.ListN.{length, getD, length-append}
 use lib.Dec.{eqb}
-use Rattle.netlist.specs.Literals.{literalOf}
-use Rattle.netlist.proofs.LiteralLaws.{variable-literal, inverted-literal}
 use Rattle.assertion.specs.Graph.{Edge, Graph, isTerminal, signalBits}
-use Rattle.circuit.specs.Gates.{lit, inv, gate, Piece}
-use Rattle.circuit.specs.Build.{init, Two, Pieces, masks, orFrom, orAll, happyTerms, condemnedTerms, happyOr, condemnedOr, vertexPieces, edgePiece, edgePieces, andFrom, andAll, acceptTerms, firstEdgeLatch, firstGate, masked, gathered, judged, accepted, gatesOf}
+use Rattle.circuit.specs.Gates.{lit, inv}
+use Rattle.circuit.specs.Build.{init, Two, Pieces, masks, orAll, happyTerms, condemnedTerms, happyOr, condemnedOr, vertexPieces, edgePiece, edgePieces, andAll, acceptTerms, firstEdgeLatch, firstGate, masked, gathered, judged, accepted, gatesOf}
 use Rattle.circuit.specs.Numbers.{edgeLatches}
 use Rattle.builder.specs.Private.Adding.{Splits, Added}
 use Rattle.builder.specs.Private.Terms.{maskGates, everyOther, termsOf, orOn, vertexHappy, vertexCondemned, vertexOf, verticesOf, acceptOf, Gathers}

@@ -6,7 +6,7 @@ use mathlib.Core.List.{List, [], _∷_, _++_}
 use native.Mathlib.Omega.{arith}
 use lib.ListN.{length, getD, List·getD-append}
 use lib.Seq.{getD-append-add}
-use Rattle.assertion.specs.Graph.{Run, signalsFrom, constantsFrom}
+use Rattle.assertion.specs.Graph.{Run}
 use Rattle.circuit.specs.Gates.{lit, inv, Gate, gate, Piece}
 use Rattle.circuit.specs.Build.{andFrom, andAll, Bits, bitLiteral, sameBits, alikeOf, formula}
 use Rattle.circuit.specs.Claims.{gateAt, sameAt, AlikeGates, AlikeMeans}

@@ -8,12 +8,11 @@ use native.Mathlib.Numerals.{add-one}
 use native.Mathlib.Omega.{arith}
 use native.Mathlib.Decide.{decLt}
 use borrow.Author.Tests.{lt-ltb, le-ltb, le-leb, lt-leb}
-use lib.ListN.{length, take, drop, set, replicate, length-append, length-replicate}
+use lib.ListN.{length, take, set, replicate, length-append, length-replicate}
 use lib.Seq.{take-at, set-append-seam}
 use Rattle.assertion.specs.Graph.{Bytes, Name, Edge, Graph, bitsOf, signalBits, constantBits}
 use Rattle.assertion.specs.declared.Mode.{Mode}
 use Rattle.graph.specs.Pieces.{Declared, lookUp, lookUpName}
-use Rattle.graph.specs.Meaning.{EachWidth}
 use Rattle.graph.specs.Reading.{modeLines, addMode, namesOf, judgedFormula, lower, sizedName, addSignal, addConstant, addVertex, edgeOf, unlessFaulty, judgeEdge, addEdge}
 use Rattle.graph.specs.Held.{lineOf, fieldAt, fieldLength, symbolWord, symbolsOf, namePlaces, arcOf, arcsOf, noArc, filled, heldAs}
 use Rattle.graph.specs.Private.Steps.{points, held, EachNarrow, narrowIn, namedOf, recordsOf, writtenOf, Holds, ArcAt, faultyOf, addedOf, withMode, withSignal, withConstant, withVertex, withEdge}

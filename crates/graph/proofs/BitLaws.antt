@@ -1,13 +1,13 @@
 -- The bits of names one after another. Assumes nothing.
-use Prim.Native.Nat.{ℕ, suc, _+_, _*_, _/_, _%_, _≤_}
-use mathlib.Core.Path.{_≡_, refl, sym, ap, _∙_}
+use Prim.Native.Nat.{ℕ, _+_, _*_, _/_, _%_, _≤_}
+use mathlib.Core.Path.{_≡_, refl, ap, _∙_}
 use mathlib.Core.List.{List, [], _∷_, _++_}
 use native.Mathlib.Nat.{add-zero}
 use native.Mathlib.Omega.{arith}
 use lib.ListN.{length, take, drop}
 use Rattle.assertion.specs.Graph.{Bytes, Name, bitsOf}
 use Rattle.graph.specs.Pieces.{Declared, placed}
-use Rattle.graph.specs.Meaning.{IsWidth, EachWidth}
+use Rattle.graph.specs.Meaning.{EachWidth}
 use Rattle.graph.specs.Held.{symbolWord, declaredIn}
 use Rattle.graph.specs.Private.Steps.{EachNarrow}
 

@@ -1,41 +1,40 @@
 -- Laws of the names and widths in an edge's formulas, by what the formulas mean: with a name that is no signal's and
--- no constant's its line is refused with 9, and with one that means nothing for its widths with 19. Byte 9 is a tab,
--- 10 LF, 69 `E`. Assumes nothing.
+-- no constant's its line is refused with 9, with one that means nothing for its widths with 19, and with formulas that
+-- mean something it is taken. Byte 9 is a tab, 10 LF, 69 `E`. Assumes nothing.
 use Prim.Native.Nat.{ℕ, suc, _+_, _≤_, _<_}
 use mathlib.Core.Path.{_≡_, refl, sym, ap, _∙_}
 use mathlib.Core.Bool.{Bool, true, false}
-use mathlib.Core.List.{List, [], _∷_, _++_, append-assoc, List·Memᴰ, List·Memᴰ·head, List·Memᴰ·tail}
+use mathlib.Core.List.{List, [], _∷_, _++_, List·Memᴰ, List·Memᴰ·head, List·Memᴰ·tail}
 use native.Mathlib.Nat.{add-zero}
 use native.Mathlib.Omega.{arith}
-use borrow.Author.Tests.{lt-ltb, le-ltb, lt-leb}
-use lib.ListN.{length, take, drop}
+use borrow.Author.Tests.{ne-eqb, lt-ltb, le-ltb, lt-leb}
+use lib.ListN.{length, getD, take, drop}
 use Rattle.text.specs.Lines.{StartsLine}
-use Rattle.formula.specs.Classes.{pick, inName, classOf, isWordClass, nameBytes, isName}
+use Rattle.formula.specs.Classes.{pick, isName}
 use Rattle.formula.specs.Grammar.{Tree, name, bitOf, alike, bit, not, group, join, depthOf}
-use Rattle.formula.proofs.ByteLaws.{name-is}
 use Rattle.formula.proofs.GrammarComplete.{grammar-means}
 use Rattle.formula.proofs.PostfixLaws.{in-field}
-use Rattle.assertion.specs.Graph.{Bytes, Run, Expr, Name, Graph, bitsOf}
+use Rattle.assertion.specs.Graph.{Bytes, Expr, Name, Edge, Graph, bitsOf, signalBits}
 use Rattle.graph.specs.Pieces.{split, same, placeOf, lookUp, Declared, placed, lookUpName}
 use Rattle.graph.specs.Records.{edge, marked, edged, ofFields, recordOf}
-use Rattle.graph.specs.Reading.{namesOf, foundAt, known, fits, resolved, judgedTree, judgedFormula, lower, faultNumber, Step, fault, went, unlessFaulty, judgeEdge, addEdge, add, accepted, readLines, nothing, graphOf}
-use Rattle.graph.specs.Meaning.{EachWidth, Named, Means}
-use Rattle.graph.specs.Meaning.Named.{a-signal, a-constant}
+use Rattle.graph.specs.Reading.{namesOf, foundAt, known, fits, resolved, judgedTree, judgedFormula, treeExpr, exprOf, edgeOf, lower, faultNumber, Step, fault, went, unlessFaulty, judgeEdge, addEdge, add, accepted, finished, readLines, nothing, graphOf}
+use Rattle.graph.specs.Meaning.{EachWidth, Means}
 use Rattle.graph.specs.Claims.{breaks, IsField}
 use Rattle.graph.specs.ModeClaims.{RefusedAfter}
 use Rattle.graph.specs.ModeClaims.RefusedAfter.{here}
-use Rattle.graph.specs.FormulaClaims.{Known, AllKnown, Formed, edgeLine, EdgeNext, FormulaMeans}
+use Rattle.graph.specs.FormulaClaims.{Known, AllKnown, Formed, edgeLine, EdgeNext, Taken, FormulaMeans}
 use Rattle.graph.specs.Held.{readOf}
 use Rattle.graph.specs.declared.Fault.{Fault}
 use Rattle.graph.specs.declared.Fault.the-variants.{UnknownName, WrongWidth}
 use Rattle.graph.specs.declared.Judged.{Judged}
 use Rattle.graph.specs.declared.Judged.the-variants.{Fine, Faulty}
-use Rattle.graph.specs.declared.FoundName.{FoundName}
 use Rattle.graph.specs.declared.Cause.the-variants.{FaultyLine}
 use Rattle.graph.specs.declared.GraphRead.{GraphRead}
 use Rattle.graph.proofs.PieceLaws.{split-some}
-use Rattle.graph.proofs.SplitLaws.{split-joined, split-whole, same-self}
+use Rattle.graph.proofs.SplitLaws.{split-joined, split-whole, same-equal, same-self}
+use Rattle.graph.proofs.DifferLaws.{Differ}
 use Rattle.graph.proofs.MeaningLaws.{located, and-both, pick-both, meaning}
+use Rattle.graph.proofs.TakenLaws.{Resolves, named-found, means-resolves}
 use Rattle.graph.proofs.HeldLaws.{finished-some, sound}
 use Rattle.graph.proofs.TextLaws.{read-some, read-next}
 use Rattle.graph.proofs.ModeTextLaws.{Lines, lines-of, joined-some, accepted-lines, refused-outcome, numbered, read}
@@ -43,59 +42,36 @@ use Rattle.graph.proofs.SymbolTextLaws.{name-field}
 use Rattle.graph.proofs.MarkLaws.{mark, lineWith, line-fields, split-more, one-byte-lines, edge-lines, marked-by}
 
 -- ---- names looked up
--- a name of a list is found in it
-listed-known : (p : ℕ) (before : List Name) (x : Name) (after : List Name) → lookUpName (x .name) (placed p (before ++ (x ∷ after))) .known ≡ true
-unfolding lookUpName placed
-listed-known p [] x after = rw (same-self (x .name), lookUpName)
-listed-known p (b ∷ before) x after = by (same (x .name) (b .name)) (listed-known (p + b .width) before x after)
-  where
-    found : Bool → FoundName
-    found t = elim t [ true ↦ record { known = true; place = p; width = b .width } | false ↦ lookUpName (x .name) (placed (p + b .width) (before ++ (x ∷ after))) ]
-
-    by : (t : Bool) → lookUpName (x .name) (placed (p + b .width) (before ++ (x ∷ after))) .known ≡ true → found t .known ≡ true
-    by true h = refl
-    by false h = h
-
 module _ (ss cs : List Name) where
   abbrev ns : List Declared
   ns = placed 0 (ss ++ cs)
 
-  -- so is what names a signal or a constant
-  named-known : {n : Bytes} {r : Run} {w : ℕ} → Named ss cs n r w → lookUpName n ns .known ≡ true
-  named-known {n} (a-signal before after w e) =
-      let x : Name = record { name = n; width = w } in
-      rw (e, append-assoc before (x ∷ after) cs) (listed-known 0 before x (after ++ cs))
-  named-known {n} (a-constant before after w e) =
-      let x : Name = record { name = n; width = w } in
-      rw (e, ← append-assoc ss before (x ∷ after)) (listed-known 0 (ss ++ before) x after)
-
-  module _ (s : Bytes) where
+  module _ (wide : EachWidth (ss ++ cs)) (s : Bytes) where
     -- the names of a tree are known where each is looked up as known
-    all-known : (e : Tree) → AllKnown ss cs s e → known ns s e ≡ true
+    all-known : Differ (ss ++ cs) → (e : Tree) → AllKnown ss cs s e → known ns s e ≡ true
     unfolding known
-    all-known (name p n) h = named-known (h .named)
-    all-known (bitOf p n i) h = named-known (h .named)
-    all-known (alike p n q m) h = rw (named-known (h .0 .named), named-known (h .1 .named))
-    all-known (bit b) h = refl
-    all-known (not e) h = all-known e h
-    all-known (group e) h = all-known e h
-    all-known (join b e f) h = rw (all-known e (h .0), all-known f (h .1))
+    all-known d (name p n) h = named-found ss cs wide d (h .named) .is-known
+    all-known d (bitOf p n i) h = named-found ss cs wide d (h .named) .is-known
+    all-known d (alike p n q m) h = rw (named-found ss cs wide d (h .0 .named) .is-known, named-found ss cs wide d (h .1 .named) .is-known)
+    all-known d (bit b) h = refl
+    all-known d (not e) h = all-known d e h
+    all-known d (group e) h = all-known d e h
+    all-known d (join b e f) h = rw (all-known d e (h .0), all-known d f (h .1))
 
-    module _ (wide : EachWidth (ss ++ cs)) where
-      found-known : (n : Bytes) → lookUpName n ns .known ≡ true → Known ss cs n
-      found-known n h = let l = located ss cs wide n h in record { run = l .run; width = lookUpName n ns .width; named = l .named }
+    found-known : (n : Bytes) → lookUpName n ns .known ≡ true → Known ss cs n
+    found-known n h = let l = located ss cs wide n h in record { run = l .run; width = lookUpName n ns .width; named = l .named }
 
-      known-all : (e : Tree) → known ns s e ≡ true → AllKnown ss cs s e
-      unfolding known
-      known-all (name p n) h = found-known (take n (drop p s)) h
-      known-all (bitOf p n i) h = found-known (take n (drop p s)) h
-      known-all (alike p n q m) h =
-          let b = and-both (foundAt ns s p n .known) (foundAt ns s q m .known) h in
-          (found-known (take n (drop p s)) (b .0), found-known (take m (drop q s)) (b .1))
-      known-all (bit b) h = tt
-      known-all (not e) h = known-all e h
-      known-all (group e) h = known-all e h
-      known-all (join b e f) h = let k = pick-both (known ns s e) (known ns s f) h in (known-all e (k .0), known-all f (k .1))
+    known-all : (e : Tree) → known ns s e ≡ true → AllKnown ss cs s e
+    unfolding known
+    known-all (name p n) h = found-known (take n (drop p s)) h
+    known-all (bitOf p n i) h = found-known (take n (drop p s)) h
+    known-all (alike p n q m) h =
+        let b = and-both (foundAt ns s p n .known) (foundAt ns s q m .known) h in
+        (found-known (take n (drop p s)) (b .0), found-known (take m (drop q s)) (b .1))
+    known-all (bit b) h = tt
+    known-all (not e) h = known-all e h
+    known-all (group e) h = known-all e h
+    known-all (join b e f) h = let k = pick-both (known ns s e) (known ns s f) h in (known-all e (k .0), known-all f (k .1))
 
 -- a vertex of a list is found in it
 place-inside : (n : Bytes) (vs : List Bytes) → List·Memᴰ n vs → placeOf n vs < length vs
@@ -106,6 +82,16 @@ place-inside n (v ∷ vs) (List·Memᴰ·tail m) = by (same n v) (place-inside n
     by : (t : Bool) → placeOf n vs < length vs → elim t [ true ↦ 0 | false ↦ suc (placeOf n vs) ] < suc (length vs)
     by true h = omega arith
     by false h = omega arith
+
+-- with its bytes
+place-finds : (n : Bytes) (vs : List Bytes) → List·Memᴰ n vs → getD vs (placeOf n vs) [] ≡ n
+unfolding placeOf
+place-finds n (v ∷ vs) (List·Memᴰ·head e) = rw (← e, same-self n, placeOf)
+place-finds n (v ∷ vs) (List·Memᴰ·tail m) = by (same n v) refl (place-finds n vs m)
+  where
+    by : (t : Bool) → same n v ≡ t → getD vs (placeOf n vs) [] ≡ n → getD (v ∷ vs) (elim t [ true ↦ 0 | false ↦ suc (placeOf n vs) ]) [] ≡ n
+    by true e h = sym (same-equal n v e)
+    by false e h = h
 
 vertex-known : {n : Bytes} {vs : List Bytes} → List·Memᴰ n vs → lookUp n vs .known ≡ true
 unfolding lookUp
@@ -141,18 +127,30 @@ module _ (ss cs : List Name) (wide : EachWidth (ss ++ cs)) {a c : Bytes} {ea ec 
   unknown-judged : (AllKnown ss cs a ea × AllKnown ss cs c ec → ⊥) → lower (judgedFormula (ns ss cs) a) (judgedFormula (ns ss cs) c) ≡ Faulty UnknownName
   unknown-judged n =
       rw (formed-judged (ns ss cs) ha, formed-judged (ns ss cs) hc)
-      (lower-unknown (known (ns ss cs) a ea) (known (ns ss cs) c ec) (fits (ns ss cs) a ea) (fits (ns ss cs) c ec) (λ k l. n (known-all ss cs a wide ea k, known-all ss cs c wide ec l)))
+      (lower-unknown (known (ns ss cs) a ea) (known (ns ss cs) c ec) (fits (ns ss cs) a ea) (fits (ns ss cs) c ec) (λ k l. n (known-all ss cs wide a ea k, known-all ss cs wide c ec l)))
 
   -- a formula that fits means what its names looked up make of it
   formed-means : {s : Bytes} {e : Tree} → Formed s e → known (ns ss cs) s e ≡ true → fits (ns ss cs) s e ≡ true → Means ss cs s e (resolved (bitsOf ss) (ns ss cs) s e)
   formed-means {s} {e} h k f = meaning ss cs wide s e (in-field s e (grammar-means s .every e (h .is))) k f
 
-  width-judged : AllKnown ss cs a ea × AllKnown ss cs c ec → ((x y : Expr) → Means ss cs a ea x → Means ss cs c ec y → ⊥) → lower (judgedFormula (ns ss cs) a) (judgedFormula (ns ss cs) c) ≡ Faulty WrongWidth
-  width-judged h n =
-      let k = all-known ss cs a ea (h .0) in
-      let l = all-known ss cs c ec (h .1) in
+  width-judged : Differ (ss ++ cs) → AllKnown ss cs a ea × AllKnown ss cs c ec → ((x y : Expr) → Means ss cs a ea x → Means ss cs c ec y → ⊥) → lower (judgedFormula (ns ss cs) a) (judgedFormula (ns ss cs) c) ≡ Faulty WrongWidth
+  width-judged d h n =
+      let k = all-known ss cs wide a d ea (h .0) in
+      let l = all-known ss cs wide c d ec (h .1) in
       rw (formed-judged (ns ss cs) ha, formed-judged (ns ss cs) hc, k, l)
       (lower-width (fits (ns ss cs) a ea) (fits (ns ss cs) c ec) (λ f g. n _ _ (formed-means ha k f) (formed-means hc l g)))
+
+-- a formula that means something is fine, and read as what it means
+module _ (g : Graph) (wide : EachWidth (g .signals ++ g .constants)) (differ : Differ (g .signals ++ g .constants)) {s : Bytes} {e : Tree} {x : Expr} (h : Formed s e) (m : Means (g .signals) (g .constants) s e x) where
+  abbrev as-meant : Resolves (g .signals) (g .constants) s e x
+  as-meant = means-resolves (g .signals) (g .constants) wide differ m
+
+  formula-fine : judgedFormula (namesOf g) s ≡ Fine
+  formula-fine = rw (formed-judged (namesOf g) h, as-meant .names-known, as-meant .widths-fit)
+
+  formula-read : exprOf g s ≡ x
+  unfolding treeExpr signalBits
+  formula-read = rw (grammar-means s .every e (h .is), treeExpr) (as-meant .is)
 
 -- ---- the record of an edge's line
 edge-marked : (f t : Bytes) (b : Bool) (a c : Bytes) → marked f t (mark b ∷ []) a c ≡ edge f t b a c
@@ -173,10 +171,10 @@ module _ (from to : Bytes) (b : Bool) (a c : Bytes) (hf : isName from ≡ true) 
   edge-whole =
       edge-lines from to b (a ++ (9 ∷ c)) (name-field from hf) (name-field to ht) (split-more a (9 ∷ c) (ha .no-lf) (one-byte-lines 9 c refl (split-whole 10 c (hc .no-lf))))
 
--- between vertices that are known, and with room, an edge is refused for its formulas
-edge-refused : (g : Graph) (from to : Bytes) (b : Bool) (a c : Bytes) → length (g .edges) < 128 → List·Memᴰ from (g .vertices) → List·Memᴰ to (g .vertices) → {f : Fault} → lower (judgedFormula (namesOf g) a) (judgedFormula (namesOf g) c) ≡ Faulty f → add g (edge from to b a c) ≡ fault f
-unfolding add addEdge judgeEdge unlessFaulty
-edge-refused g from to b a c room hf ht h = rw (lt-leb 128 (length (g .edges)) room, vertex-known hf, vertex-known ht, h)
+-- between vertices that are known, and with room, an edge is judged by its formulas
+edge-judged : (g : Graph) (from to : Bytes) (b : Bool) (a c : Bytes) → length (g .edges) < 128 → List·Memᴰ from (g .vertices) → List·Memᴰ to (g .vertices) → add g (edge from to b a c) ≡ unlessFaulty (lower (judgedFormula (namesOf g) a) (judgedFormula (namesOf g) c)) g (edgeOf g (lookUp from (g .vertices) .place) (lookUp to (g .vertices) .place) b a c)
+unfolding add addEdge judgeEdge
+edge-judged g from to b a c room hf ht = rw (lt-leb 128 (length (g .edges)) room, vertex-known hf, vertex-known ht)
 
 -- ---- a line after a text that is accepted
 -- its lines are read to its graph, whatever follows them
@@ -199,7 +197,7 @@ read-on g n (l ∷ ls) rest {last} h e = by (add g (recordOf l)) refl (λ more. 
         ∙ ih more (sym (read-next g n l (ls ++ ([] ∷ [])) (joined-some ls ([] ∷ []) none) a) ∙ e)
         ∙ ap (λ (k : ℕ). readLines last k rest) z
 
--- the line that follows is the one refused
+-- the line that follows decides
 module _ {text before : Bytes} (line after : Bytes) {g : Graph} (starts : StartsLine before) (bytes-are : text ≡ before ++ (line ++ (10 ∷ after))) (taken : graphOf before ≡ accepted g) where
   abbrev its : Lines before
   its = lines-of before starts
@@ -218,15 +216,53 @@ module _ {text before : Bytes} (line after : Bytes) {g : Graph} (starts : Starts
       let n : 1 + length (its .ls) ≡ breaks before + 1 = omega (arith, its .count) in
       here (FaultyLine f (1 + length (its .ls))) (refused-outcome text (read-line one short ∙ read-some g (1 + length (its .ls)) line (split 10 after) (split-some 10 after) wrong) e) (numbered f n)
 
--- an edge's line after such a text, refused for its formulas
-formulas-faulty : {text before : Bytes} {g : Graph} {a c : Bytes} {ea ec : Tree} → EdgeNext text before g a c ea ec → {f : Fault} → lower (judgedFormula (namesOf g) a) (judgedFormula (namesOf g) c) ≡ Faulty f → length text ≤ 32768 → {r : GraphRead} → r ≡ readOf text → RefusedAfter before (faultNumber f) r
-formulas-faulty {g = g} {a = a} {c = c} h {f} j short e =
-    let m = marked-by (h .is-mark) in
-    line-faulty (edgeLine (h .from) (h .to) (h .mark) a c) (h .after) (h .starts) (h .bytes) (h .read)
-    (rw (m .1) (edge-whole (h .from) (h .to) (m .0) a c (h .from-name) (h .to-name) (h .antecedent .field) (h .consequent .field)))
-    (rw (m .1, edge-record (h .from) (h .to) (m .0) a c (h .from-name) (h .to-name) (h .antecedent .field) (h .consequent .field))
-    (edge-refused g (h .from) (h .to) (m .0) a c (h .room) (h .from-vertex) (h .to-vertex) j))
-    short e
+  -- or, as the last, is taken
+  line-taken : split 10 line ≡ line ∷ [] → after ≡ [] → {more : Graph} → add g (recordOf line) ≡ went more → 1 ≤ length (more .vertices) → length text ≤ 32768 → graphOf text ≡ accepted more
+  unfolding readLines split finished
+  line-taken one none {more} goes filled short =
+      read-line one short
+      ∙ read-next g (1 + length (its .ls)) line (split 10 after) (split-some 10 after) goes
+      ∙ rw (none, ne-eqb (length (more .vertices)) 0 (λ e. omega (arith, e, filled)))
+
+-- an edge's line after such a text
+module _ {text before : Bytes} {g : Graph} {a c : Bytes} {ea ec : Tree} (h : EdgeNext text before g a c ea ec) where
+  abbrev line-of : Bytes
+  line-of = edgeLine (h .from) (h .to) (h .mark) a c
+
+  abbrev edge-of : Edge
+  edge-of = edgeOf g (lookUp (h .from) (g .vertices) .place) (lookUp (h .to) (g .vertices) .place) (marked-by (h .is-mark) .0) a c
+
+  one-line : split 10 line-of ≡ line-of ∷ []
+  one-line =
+      let m = marked-by (h .is-mark) in
+      rw (m .1) (edge-whole (h .from) (h .to) (m .0) a c (h .from-name) (h .to-name) (h .antecedent .field) (h .consequent .field))
+
+  edge-step : add g (recordOf line-of) ≡ unlessFaulty (lower (judgedFormula (namesOf g) a) (judgedFormula (namesOf g) c)) g edge-of
+  edge-step =
+      let m = marked-by (h .is-mark) in
+      ap (λ (k : ℕ). add g (recordOf (edgeLine (h .from) (h .to) k a c))) (m .1)
+      ∙ ap (add g) (edge-record (h .from) (h .to) (m .0) a c (h .from-name) (h .to-name) (h .antecedent .field) (h .consequent .field))
+      ∙ edge-judged g (h .from) (h .to) (m .0) a c (h .room) (h .from-vertex) (h .to-vertex)
+
+  -- refused for its formulas
+  formulas-faulty : {f : Fault} → lower (judgedFormula (namesOf g) a) (judgedFormula (namesOf g) c) ≡ Faulty f → length text ≤ 32768 → {r : GraphRead} → r ≡ readOf text → RefusedAfter before (faultNumber f) r
+  unfolding unlessFaulty
+  formulas-faulty j short e = line-faulty line-of (h .after) (h .starts) (h .bytes) (h .read) one-line (edge-step ∙ rw j) short e
+
+  -- or taken with what they mean
+  formulas-taken : h .after ≡ [] → {x y : Expr} → Means (g .signals) (g .constants) a ea x → Means (g .signals) (g .constants) c ec y → length text ≤ 32768 → Taken text g (h .from) (h .to) (h .mark) x y
+  unfolding unlessFaulty lower edgeOf lookUp
+  formulas-taken last hx hy short =
+      let s = sound before (h .read) in
+      record {
+        edge = edge-of;
+        read = line-taken line-of (h .after) (h .starts) (h .bytes) (h .read) one-line last (edge-step ∙ rw (formula-fine g (s .widths) (s .names-differ) (h .antecedent) hx, formula-fine g (s .widths) (s .names-differ) (h .consequent) hy)) (s .some-vertex) short;
+        leaves = place-finds (h .from) (g .vertices) (h .from-vertex);
+        enters = place-finds (h .to) (g .vertices) (h .to-vertex);
+        marked = marked-by (h .is-mark) .1;
+        antecedent = formula-read g (s .widths) (s .names-differ) (h .antecedent) hx;
+        consequent = formula-read g (s .widths) (s .names-differ) (h .consequent) hy;
+      }
 
 -- THE LAW
 pub formula-means : (text : Bytes) {r : GraphRead} → r ≡ readOf text → FormulaMeans text r
@@ -236,5 +272,6 @@ formula-means text e =
       unknown = λ before g a c ea ec h n short.
           formulas-faulty h (unknown-judged (g .signals) (g .constants) (sound before (h .read) .widths) (h .antecedent) (h .consequent) n) short e;
       widths = λ before g a c ea ec h k n short.
-          formulas-faulty h (width-judged (g .signals) (g .constants) (sound before (h .read) .widths) (h .antecedent) (h .consequent) k n) short e;
+          formulas-faulty h (width-judged (g .signals) (g .constants) (sound before (h .read) .widths) (h .antecedent) (h .consequent) (sound before (h .read) .names-differ) k n) short e;
+      taken = λ before g a c ea ec h last x y hx hy short. formulas-taken h last hx hy short;
     }

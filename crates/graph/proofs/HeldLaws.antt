@@ -9,9 +9,9 @@ use native.Mathlib.Numerals.{add-one}
 use native.Mathlib.Omega.{arith}
 use borrow.Author.Tests.{ltb-true, ltb-false, leb-false, eqb-false}
 use lib.Dec.{eqb, ltb, leb}
-use lib.ListN.{length, getD, take, drop, replicate, length-append, length-take, length-drop, length-map, List·getD-append, List·getD-map}
+use lib.ListN.{length, getD, drop, replicate, length-append, length-take, length-drop, length-map, List·getD-append, List·getD-map}
 use Rattle.formula.specs.Classes.{pick}
-use Rattle.formula.specs.Grammar.{Tree, Parsed, none, tree, treeOf, depthOf}
+use Rattle.formula.specs.Grammar.{Parsed, none, tree, treeOf, depthOf}
 use Rattle.formula.proofs.PostfixLaws.{words-some, words-fit, in-field}
 use Rattle.assertion.specs.Graph.{Bytes, Expr, Name, Edge, Graph, bitsOf, signalBits, constantBits, isTerminal}
 use Rattle.assertion.specs.declared.Mode.{Mode}
@@ -22,7 +22,6 @@ use Rattle.graph.specs.Reading.{
   addMode,
   known,
   fits,
-  resolved,
   sizedName,
   judgedTree,
   judgedFormula,
@@ -48,20 +47,19 @@ use Rattle.graph.specs.Reading.{
   graphOf,
 }
 use Rattle.graph.specs.Meaning.{IsWidth, EachWidth}
-use Rattle.graph.specs.Held.{declaredIn, lineStart, lineOf, fieldStart, fieldAt, fieldLength, symbolWord, symbolsOf, namePlaces, arcOf, arcsOf, noArc, filled, heldAs, heldOf}
+use Rattle.graph.specs.Held.{declaredIn, lineStart, lineOf, fieldStart, fieldAt, fieldLength, symbolsOf, namePlaces, arcOf, arcsOf, noArc, filled, heldAs, heldOf}
 use Rattle.graph.specs.Private.Steps.{points, held, namedOf, recordsOf}
 use Rattle.graph.specs.declared.Fault.{Fault}
 use Rattle.graph.specs.declared.Cause.the-variants.{TextTooLong, FaultyLine, NoVertex}
 use Rattle.graph.specs.declared.Judged.{Judged}
 use Rattle.graph.specs.declared.Judged.the-variants.{Fine, Faulty}
-use Rattle.graph.specs.declared.Arc.{Arc}
 use Rattle.graph.specs.Claims.{FormulaAt, FormulaSound, EdgeSound, Sound}
 use Rattle.graph.proofs.PieceLaws.{split-some}
 use Rattle.graph.proofs.BreakLaws.{line-inside, breaks-from}
 use Rattle.graph.proofs.EdgeLineLaws.{fits-line, edge-behind}
 use Rattle.graph.proofs.ModeLineLaws.{mode-said}
 use Rattle.graph.proofs.FieldLaws.{EdgeFields, SymbolFields, NameAt, Fits, line-fits, two-left}
-use Rattle.graph.proofs.BitLaws.{bits-append, bits-more, bits-none, bits-some, each-left, each-right, each-both, placed-more, symbol-back}
+use Rattle.graph.proofs.BitLaws.{bits-append, bits-more, bits-some, each-left, each-both, placed-more, symbol-back}
 use Rattle.graph.proofs.MeaningLaws.{meaning}
 use Rattle.graph.proofs.DifferLaws.{Differ, differ-more}
 use Rattle.graph.proofs.SymbolLaws.{SymbolLines, every-line, signal-lines, constant-lines, symbol-is, all-widths}

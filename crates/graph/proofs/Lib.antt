@@ -22,6 +22,7 @@ pub mod TextLaws
 pub mod ModeTextLaws
 pub mod WidthTextLaws
 pub mod SymbolTextLaws
+pub mod TakenLaws
 pub mod FormulaTextLaws
 pub mod UnseenLaws
 pub mod MarkLaws

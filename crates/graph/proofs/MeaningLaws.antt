@@ -1,5 +1,5 @@
 -- A formula whose names are known and whose widths fit means what its names looked up make of it. Assumes nothing.
-use Prim.Native.Nat.{ℕ, zero, suc, _+_, _-_, _≤_, _<_}
+use Prim.Native.Nat.{ℕ, _+_, _-_, _≤_, _<_}
 use mathlib.Core.Path.{_≡_, refl, sym, ap, subst, _∙_}
 use mathlib.Core.Bool.{Bool, true, false, _&&_}
 use mathlib.Core.List.{List, [], _∷_, _++_, List·Memᴰ, List·Memᴰ·head, List·Memᴰ·tail}
@@ -9,12 +9,12 @@ use native.Mathlib.Omega.{arith}
 use borrow.Author.Tests.{eqb-true, ltb-true, lt-ltb, le-ltb}
 use lib.Dec.{eqb, ltb}
 use lib.ListN.{take, drop}
-use Rattle.formula.specs.Classes.{pick, strengthOf, startOf}
+use Rattle.formula.specs.Classes.{pick, strengthOf}
 use Rattle.formula.specs.Grammar.{Tree, name, bitOf, bit, not, group, join}
 use Rattle.formula.specs.Grammar as tree
 use Rattle.formula.proofs.ByteLaws.{start-bit}
 use Rattle.formula.proofs.PostfixLaws.{InField}
-use Rattle.assertion.specs.Graph.{Bytes, Run, signalsFrom, constantsFrom, Expr, truth, neg, Name, bitsOf}
+use Rattle.assertion.specs.Graph.{Bytes, Run, signalsFrom, constantsFrom, Expr, truth, Name, bitsOf}
 use Rattle.assertion.specs.Graph as G
 use Rattle.graph.specs.Pieces.{Declared, placed, lookUpName}
 use Rattle.graph.specs.Pieces as pieces
@@ -24,7 +24,7 @@ use Rattle.graph.specs.Meaning.Named.{a-signal, a-constant}
 use Rattle.graph.specs.Meaning.Means.{one-bit, bit-of, compared, is-zero, is-one, inverted, bracketed, both, some, just-one, both-alike}
 use Rattle.graph.specs.declared.FoundName.{FoundName}
 use Rattle.graph.proofs.SplitLaws.{same-equal}
-use Rattle.graph.proofs.BitLaws.{bits-append, each-left, each-right}
+use Rattle.graph.proofs.BitLaws.{bits-append, each-right}
 
 -- ---- a name found
 -- what is found of a name that stands in a list behind others, whose first bit has the place p
@@ -82,11 +82,11 @@ pub record Located (ss cs : List Name) (n : Bytes) (f : FoundName) : Type 0 wher
   pub starts : runOf (bitsOf ss) (f .place) ≡ run
   pub bits : (i : ℕ) → i < f .width → symbol (bitsOf ss) (f .place + i) ≡ bitIn run i
 
-bits-parted : (before : List Name) (x : Name) (after : List Name) → bitsOf (before ++ (x ∷ after)) ≡ bitsOf before + x .width + bitsOf after
+pub bits-parted : (before : List Name) (x : Name) (after : List Name) → bitsOf (before ++ (x ∷ after)) ≡ bitsOf before + x .width + bitsOf after
 unfolding bitsOf
 bits-parted before x after = omega (arith, bits-append before (x ∷ after))
 
-width-at : (before : List Name) (x : Name) (after : List Name) → EachWidth (before ++ (x ∷ after)) → 1 ≤ x .width
+pub width-at : (before : List Name) (x : Name) (after : List Name) → EachWidth (before ++ (x ∷ after)) → 1 ≤ x .width
 width-at before x after h = each-right before (x ∷ after) h .0 .some
 
 -- two tests, both held

@@ -1,22 +1,20 @@
 -- The lines of signals and constants, and their words. Assumes nothing.
-use Prim.Native.Nat.{ℕ, zero, suc, _+_, _-_, _%_, _≤_, _<_}
-use mathlib.Core.Path.{_≡_, refl, sym, ap, subst, _∙_}
-use mathlib.Core.List.{List, [], _∷_, _++_, append-assoc, append-nil}
+use Prim.Native.Nat.{ℕ, zero, suc, _+_, _-_, _≤_, _<_}
+use mathlib.Core.Path.{_≡_, refl, sym, ap, _∙_}
+use mathlib.Core.List.{List, [], _∷_, _++_, append-assoc}
 use native.Mathlib.Nat.{add-zero}
 use native.Mathlib.Numerals.{add-one}
 use native.Mathlib.Omega.{arith}
 use native.Mathlib.Decide.{decLt}
-use lib.ListN.{length, getD, take, drop, replicate, length-append, length-take, length-drop, take-append-drop, List·getD-append}
+use lib.ListN.{length, getD, take, drop, replicate, length-append, take-append-drop, List·getD-append}
 use lib.Seq.{drop-drop, drop-cons, length-take-le, take-all}
-use Rattle.assertion.specs.Graph.{Bytes, Name, Graph, bitsOf}
-use Rattle.text.specs.Lines.{StartsLine}
+use Rattle.assertion.specs.Graph.{Bytes, Name, bitsOf}
 use Rattle.graph.specs.Pieces.{split, upTo, endAt, pieceAt}
 use Rattle.graph.specs.Reading.{modeLines}
 use Rattle.graph.specs.Meaning.{IsWidth, EachWidth}
-use Rattle.graph.specs.Held.{lineStart, lineOf, fieldStart, fieldAt, fieldLength, symbolWord, symbolsOf, filled}
+use Rattle.graph.specs.Held.{lineStart, lineOf, fieldAt, symbolWord, symbolsOf, filled}
 use Rattle.graph.specs.Claims.{breaks, widthsOf, SymbolAt}
 use Rattle.graph.specs.declared.CheckedGraph.{CheckedGraph}
-use Rattle.graph.proofs.SplitLaws.{split-breaks}
 use Rattle.graph.proofs.BreakLaws.{line-inside, breaks-from}
 use Rattle.graph.proofs.EdgeLineLaws.{starts-line}
 use Rattle.graph.proofs.FieldLaws.{SymbolFields, end-byte}

@@ -1,13 +1,12 @@
 -- Worked examples of names wider than one wire: widths, totals, bits and `==`. Assumes nothing.
 use mathlib.Core.Path.{_≡_, refl}
-use mathlib.Core.Bool.{true}
 use mathlib.Core.List.{List, [], _∷_, _++_}
 use lib.ListN.{take}
 use Rattle.text.specs.Quoted.{bytes}
 use Rattle.text.specs.Numbers.{digitsOf, digits, isDigit, leadingDigits, valueFrom}
 use Rattle.formula.specs.Classes.{classOf, isLetter, isWordClass, strengthOf, startOf, run, nameBytes, isName}
 use Rattle.formula.specs.Grammar.{andThen, isIndex, indexOf, rightOf, nameOf, closed, operandOf, expressionOf, restOf, whole, treeOf, depthOf}
-use Rattle.assertion.specs.Graph.{Bytes, Expr, signal, constant, truth, neg, same, alike, signalsFrom, constantsFrom, Graph, bitsOf, signalBits, constantBits, isTerminal}
+use Rattle.assertion.specs.Graph.{Bytes, Expr, signal, constant, neg, same, alike, signalsFrom, constantsFrom, bitsOf, signalBits, constantBits, isTerminal}
 use Rattle.graph.specs.Pieces as pieces
 use Rattle.graph.specs.Pieces.{onto, split, upTo, endAt, pieceAt, placeOf, lookUp, placed, lookUpName}
 use Rattle.graph.specs.Records.{moded, numberTo, widthOf, sized, named, marked, edged, ofFields, recordOf}

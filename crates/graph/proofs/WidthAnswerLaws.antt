@@ -1,14 +1,13 @@
 -- What the reader's answer tells of widths. Assumes nothing.
-use mathlib.Core.Path.{_≡_, sym, subst, _∙_}
+use mathlib.Core.Path.{_≡_, sym, subst}
 use Prim.Native.Nat.{ℕ, _+_, _≤_, _<_}
-use lib.ListN.{length, take}
+use lib.ListN.{take}
 use Rattle.assertion.specs.Graph.{Bytes}
-use Rattle.graph.specs.Held.{heldOf, readOf}
+use Rattle.graph.specs.Held.{readOf}
 use Rattle.graph.specs.Claims.{widthsOf, SymbolAt}
 use Rattle.graph.specs.ModeClaims.{RefusedAfter}
 use Rattle.graph.specs.WidthClaims.{WidthMeans}
 use Rattle.graph.specs.declared.CheckedGraph.{CheckedGraph}
-use Rattle.graph.specs.declared.ReadOutcome.the-variants.{Checked}
 use Rattle.graph.specs.declared.GraphRead.{GraphRead}
 use Rattle.graph.proofs.AnswerLaws.{CheckedText, checked-text}
 use Rattle.graph.proofs.WidthTextLaws.{signal-width, constant-width, vertex-width}

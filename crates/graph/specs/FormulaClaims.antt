@@ -3,14 +3,14 @@
 use Prim.Native.Nat.{ℕ, _≤_, _<_}
 use Prim.Native.Char.{code}
 use mathlib.Core.Path.{_≡_}
-use mathlib.Core.Bool.{true}
+use mathlib.Core.Bool.{true, cond}
 use mathlib.Core.List.{List, [], _∷_, _++_, List·Memᴰ}
-use lib.ListN.{length, take, drop}
+use lib.ListN.{length, getD, take, drop}
 use Rattle.text.specs.Lines.{StartsLine}
 use Rattle.formula.specs.Classes.{isName}
 use Rattle.formula.specs.Grammar.{Tree, name, bitOf, alike, bit, not, group, join, depthOf}
 use Rattle.formula.specs.Claims.{IsFormula}
-use Rattle.assertion.specs.Graph.{Bytes, Run, Expr, Name, Graph}
+use Rattle.assertion.specs.Graph.{Bytes, Run, Expr, Name, Edge, Graph}
 use Rattle.graph.specs.Reading.{accepted, graphOf}
 use Rattle.graph.specs.Meaning.{Named, Means}
 use Rattle.graph.specs.Claims.{IsField}
@@ -62,6 +62,16 @@ pub record EdgeNext (text before : Bytes) (g : Graph) (a c : Bytes) (ea ec : Tre
   pub antecedent : Formed a ea
   pub consequent : Formed c ec
 
+-- the text is the graph g with one edge more, between these vertices, with this mark and these formulas
+pub record Taken (text : Bytes) (g : Graph) (from to : Bytes) (mark : ℕ) (x y : Expr) : Type 0 where
+  pub edge : Edge
+  pub read : graphOf text ≡ accepted (record { mode = g .mode; signals = g .signals; constants = g .constants; vertices = g .vertices; edges = g .edges ++ (edge ∷ []) })
+  pub leaves : getD (g .vertices) (edge .from) [] ≡ from
+  pub enters : getD (g .vertices) (edge .to) [] ≡ to
+  pub marked : mark ≡ cond (edge .marked) (code "t") (code "-")
+  pub antecedent : edge .antecedent ≡ x
+  pub consequent : edge .consequent ≡ y
+
 -- THE CLAIM of the answer r to a text
 pub record FormulaMeans (text : Bytes) (r : GraphRead) : Type 0 where
   -- an unknown name is 9
@@ -69,3 +79,5 @@ pub record FormulaMeans (text : Bytes) (r : GraphRead) : Type 0 where
   -- "unequal widths, a bit beyond the width, or a wide name where one bit is due is 19, with the line of the formula,
   -- after 9": the names are known, and one of the formulas means nothing
   pub widths : (before : Bytes) (g : Graph) (a c : Bytes) (ea ec : Tree) → EdgeNext text before g a c ea ec → AllKnown (g .signals) (g .constants) a ea × AllKnown (g .signals) (g .constants) c ec → ((x y : Expr) → Means (g .signals) (g .constants) a ea x → Means (g .signals) (g .constants) c ec y → ⊥) → length text ≤ 32768 → RefusedAfter before 19 r
+  -- an edge whose formulas mean something is taken with what they mean
+  pub taken : (before : Bytes) (g : Graph) (a c : Bytes) (ea ec : Tree) (n : EdgeNext text before g a c ea ec) → n .after ≡ [] → (x y : Expr) → Means (g .signals) (g .constants) a ea x → Means (g .signals) (g .constants) c ec y → length text ≤ 32768 → Taken text g (n .from) (n .to) (n .mark) x y

@@ -7,7 +7,7 @@ use lib.Dec.{ltb, leb, eqb}
 use lib.ListN.{length, take, drop, set}
 use Rattle.formula.specs.Classes.{pick}
 use Rattle.assertion.specs.Lists.{any}
-use Rattle.assertion.specs.Graph.{Bytes, Name, Graph}
+use Rattle.assertion.specs.Graph.{Bytes, Graph}
 use Rattle.assertion.specs.declared.Mode.{Mode}
 use Rattle.assertion.specs.declared.Mode.the-variants.{Unsaid, Terminal, Strong}
 use Rattle.graph.specs.Pieces.{endAt, pieceAt, Declared, lookUpName}

@@ -1,6 +1,5 @@
 -- `put_edge` meets its contract. Assumes nothing.
 use mathlib.Core.Path.{refl, _∙_}
-use native.Mathlib.Omega.{arith}
 use borrow.Author.Needs.{needs}
 use Rattle.builder.proofs.AddingLaws.{room-first, whole-of, then, room-second}
 use Rattle.builder.specs.Private.Terms.{tokensOf}

@@ -20,8 +20,6 @@ use Rattle.formula.specs.Private.Readers.{
   RestBounds,
   leftOver,
   deeperOf,
-  besideOf,
-  closedOf,
   countedOf,
   putOf,
 }

@@ -5,12 +5,12 @@ pub mod BreakLaws
 pub mod NameLaws
 pub mod WidthFieldLaws
 pub mod RecordLaws
-pub mod WordLaws
 pub mod EdgeLaws
 pub mod FieldLaws
 pub mod EdgeLineLaws
 pub mod BitLaws
 pub mod MeaningLaws
+pub mod WordLaws
 pub mod DifferLaws
 pub mod ArrayLaws
 pub mod ModeLineLaws

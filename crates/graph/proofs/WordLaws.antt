@@ -26,6 +26,7 @@ use Rattle.graph.specs.Private.Steps.{EachNarrow, nameFound, wordKnown, 
 use Rattle.graph.specs.declared.Fault.the-variants.{NotFormula, TooDeep, UnknownName, WrongWidth}
 use Rattle.graph.specs.declared.FoundName.{FoundName}
 use Rattle.graph.specs.declared.Judged.the-variants.{Fine, Faulty}
+use Rattle.graph.proofs.MeaningLaws.{pick-both}
 
 -- ---- one word by its kind
 module _ (ns : List Declared) (s : Bytes) (w : ℕ) where
@@ -67,9 +68,19 @@ module _ (ns : List Declared) (s : Bytes) (w : ℕ) where
   unfolding wordFits
   fits-bit l h = rw (le-leb 4096 w (omega arith), le-ltb w 8192 l, le-ltb w 4096 (omega arith), lt-ltb w 16777216 h)
 
-  pub fits-alike : 16777216 ≤ w → wordFits ns s w ≡ eqb (nameFound ns s ((w - 16777216) / 4096) .width) (nameFound ns s (w % 4096) .width)
+  pub fits-alike : 16777216 ≤ w → wordFits ns s w ≡ pick (nameFound ns s ((w - 16777216) / 4096) .known && nameFound ns s (w % 4096) .known) (eqb (nameFound ns s ((w - 16777216) / 4096) .width) (nameFound ns s (w % 4096) .width)) false
   unfolding wordFits
   fits-alike l = rw (le-leb 4096 w (omega arith), le-ltb w 8192 (omega arith), le-ltb w 4096 (omega arith), le-ltb w 16777216 l)
+
+  -- two names compared, both found, or one of them not
+  pub alike-found : {x y : FoundName} → 16777216 ≤ w → x ≡ nameFound ns s ((w - 16777216) / 4096) → y ≡ nameFound ns s (w % 4096) → x .known ≡ true → y .known ≡ true → eqb (x .width) (y .width) ≡ wordFits ns s w
+  alike-found l e k f g = rw (fits-alike l, ← e, ← k, f, g)
+
+  pub left-missing : {x : FoundName} → 16777216 ≤ w → x ≡ nameFound ns s ((w - 16777216) / 4096) → x .known ≡ false → false ≡ wordFits ns s w
+  left-missing l e f = rw (fits-alike l, ← e, f)
+
+  pub right-missing : {x y : FoundName} → 16777216 ≤ w → x ≡ nameFound ns s ((w - 16777216) / 4096) → y ≡ nameFound ns s (w % 4096) → x .known ≡ true → y .known ≡ false → false ≡ wordFits ns s w
+  right-missing l e k f g = rw (fits-alike l, ← e, ← k, f, g)
 
 -- ---- the words one after the other
 module _ (test : ℕ → Bool) (words : List ℕ) (n i : ℕ) (h : n ≤ length words) where
@@ -177,6 +188,30 @@ found-narrow n (d ∷ ds) h = go (same n (d .name)) refl (found-narrow n ds (h .
     go true e i = rw (e, lookUpName) (h .0)
     go false e i = rw (e, lookUpName) i
 
+-- a name that is not found has no width, so what a width passes, and 0 does not, tells that it is found
+missing-none : (n : Bytes) (ns : List Declared) → lookUpName n ns .known ≡ false → lookUpName n ns .width ≡ 0
+unfolding lookUpName
+missing-none n [] h = refl
+missing-none n (d ∷ ds) h = go (same n (d .name)) refl h (missing-none n ds)
+  where
+    go : (t : Bool) → same n (d .name) ≡ t → lookUpName n (d ∷ ds) .known ≡ false → (lookUpName n ds .known ≡ false → lookUpName n ds .width ≡ 0) → lookUpName n (d ∷ ds) .width ≡ 0
+    go true e k ih = let z : true ≡ false = rw (lookUpName, e) at k in let y : _≡_ {A = ℕ} 0 1 = cc in absurd (omega arith)
+    go false e k ih = rw (lookUpName, e) (ih (rw (lookUpName, e) at k))
+
+found-too : (test : ℕ → Bool) (f : FoundName) → test 0 ≡ false → (f .known ≡ false → f .width ≡ 0) → test (f .width) ≡ pick (f .known) (test (f .width)) false
+found-too test f z h = go (f .known) refl
+  where
+    go : (t : Bool) → f .known ≡ t → test (f .width) ≡ pick t (test (f .width)) false
+    go true e = refl
+    go false e = rw (h e) z
+
+-- what two formulas pass by both tests, each passes by both
+both-pass : (k f k2 f2 : Bool) → pick (pick k k2 false) (pick f f2 false) false ≡ pick (pick k f false) (pick k2 f2 false) false
+both-pass true true k2 f2 = refl
+both-pass true false true f2 = refl
+both-pass true false false f2 = refl
+both-pass false f k2 f2 = refl
+
 module _ (ns : List Declared) (s : Bytes) where
   -- ---- names and widths of a tree's words
   found-name : (p n : ℕ) {w : ℕ} → NameIn s p n → w ≡ nameWord p n → nameFound ns s w ≡ foundAt ns s p n
@@ -214,19 +249,19 @@ module _ (ns : List Declared) (s : Bytes) where
           of-join = λ b e e2. refl;
         }
 
-    tests-fits : EachNarrow ns → Tests s (wordFits ns s) (fits ns s)
-    unfolding fits
+    tests-fits : EachNarrow ns → Tests s (wordFits ns s) (λ e. pick (known ns s e) (fits ns s e) false)
+    unfolding known fits
     tests-fits narrow =
         record {
-          at-name = λ p n i. fits-name ns s (nameWord p n) (word-small p n i) ∙ rw (found-alone p n i);
+          at-name = λ p n i. fits-name ns s (nameWord p n) (word-small p n i) ∙ rw (found-alone p n i) (found-too (λ w. eqb w 1) (foundAt ns s p n) refl (missing-none (take n (drop p s)) ns));
           at-bit = λ p n k i.
-              fits-bit ns s (bitWord p n k) (bit-word-large p n k) (bit-word-small p n k (word-small p n i)) ∙ rw (found-bit p n k i, bit-word-bit p n k (word-small p n i)) (cut-bit k (foundAt ns s p n .width) (found-narrow (take n (drop p s)) ns narrow));
+              fits-bit ns s (bitWord p n k) (bit-word-large p n k) (bit-word-small p n k (word-small p n i)) ∙ rw (found-bit p n k i, bit-word-bit p n k (word-small p n i)) (cut-bit k (foundAt ns s p n .width) (found-narrow (take n (drop p s)) ns narrow)) ∙ found-too (λ w. ltb k w) (foundAt ns s p n) (le-ltb k 0 (omega arith)) (missing-none (take n (drop p s)) ns);
           at-alike = λ p n q m i k. fits-alike ns s (alikeWord p n q m) (alike-word-large p n q m) ∙ rw (found-left p n q m i k, found-right p n q m i k);
           at-byte = λ b h. fits-byte ns s (byteWord b) (byte-word-large b) (byte-word-small b h);
           of-bit = λ b. refl;
           of-not = λ e. refl;
           of-group = λ e. refl;
-          of-join = λ b e e2. refl;
+          of-join = λ b e e2. both-pass (known ns s e) (fits ns s e) (known ns s e2) (fits ns s e2);
         }
 
   -- ---- a field as the formula's reader answers it
@@ -239,8 +274,9 @@ module _ (ns : List Declared) (s : Bytes) where
   pub record Formed (f : Formula) : Type 0 where
     pub depth : 16 < f .depth → Faulty TooDeep ≡ judgedFormula ns s
     pub room : f .count ≤ length (f .words)
+    pub fine : true ≡ allWords (wordFits ns s) (take (f .count) (f .words)) → f .depth ≤ 16 → EachNarrow ns → Fine ≡ judgedFormula ns s
+    pub widths : false ≡ allWords (wordFits ns s) (take (f .count) (f .words)) → true ≡ allWords (wordKnown ns s) (take (f .count) (f .words)) → f .depth ≤ 16 → EachNarrow ns → Faulty WrongWidth ≡ judgedFormula ns s
     pub unknown : false ≡ allWords (wordKnown ns s) (take (f .count) (f .words)) → f .depth ≤ 16 → Faulty UnknownName ≡ judgedFormula ns s
-    pub widths : {t : Bool} → true ≡ allWords (wordKnown ns s) (take (f .count) (f .words)) → t ≡ allWords (wordFits ns s) (take (f .count) (f .words)) → f .depth ≤ 16 → EachNarrow ns → pick t Fine (Faulty WrongWidth) ≡ judgedFormula ns s
 
   module _ (x : Tree) (e : treeOf s ≡ tree x) where
     of-words : {t : Bool} (word : ℕ → Bool) (all : Tree → Bool) → Tests s word all → t ≡ allWords word (take (length (postfix x)) (padded (postfix x))) → all x ≡ t
@@ -255,9 +291,14 @@ module _ (ns : List Declared) (s : Bytes) where
         record {
           depth = λ l. rw (e, lt-ltb 16 (depthOf x) l);
           room = omega (arith, length-append (postfix x) (replicate (255 - length (postfix x)) 0));
+          fine = λ q l narrow.
+              let b = pick-both (known ns s x) (fits ns s x) (of-words (wordFits ns s) (λ e. pick (known ns s e) (fits ns s e) false) (tests-fits short narrow) q) in
+              rw (e, le-ltb 16 (depthOf x) l, b .0, b .1);
+          widths = λ q k l narrow.
+              let a = of-words (wordKnown ns s) (known ns s) (tests-known short) k in
+              let b : fits ns s x ≡ false = rw a at (of-words (wordFits ns s) (λ e. pick (known ns s e) (fits ns s e) false) (tests-fits short narrow) q) in
+              rw (e, le-ltb 16 (depthOf x) l, a, b);
           unknown = λ k l. rw (e, le-ltb 16 (depthOf x) l, of-words (wordKnown ns s) (known ns s) (tests-known short) k);
-          widths = λ k q l narrow.
-              rw (e, le-ltb 16 (depthOf x) l, of-words (wordKnown ns s) (known ns s) (tests-known short) k, of-words (wordFits ns s) (fits ns s) (tests-fits short narrow) q);
         }
 
   formed : (t : Parsed) → treeOf s ≡ t → {f : Formula} → f ≡ answerOf t → f .formed ≡ true → Formed f

@@ -49,7 +49,7 @@ fn word_known(text: &[u8], symbols: &[usize], total: usize, s: &[u8], w: usize) 
     found.known
 }
 
-// Has a word, whose names are known, the widths that it asks for?
+// Are the names of a word in the list, with the widths that it asks for? An unknown name has width 0.
 fn word_fits(text: &[u8], symbols: &[usize], total: usize, s: &[u8], w: usize) -> bool
     ensures { λ r. ⌜ r ≡ wordFits (listed (now (text .entry)) (now (symbols .entry)) total) (now (s .entry)) w ⌝ }
 {
@@ -64,7 +64,10 @@ fn word_fits(text: &[u8], symbols: &[usize], total: usize, s: &[u8], w: usize) -
         return w / BITS - 1 < found.width;
     }
     let left = found_in(text, symbols, total, s, (w - ALIKE) / NAMES);
-    left.width == found.width
+    if left.known && found.known {
+        return left.width == found.width;
+    }
+    false
 }
 
 // Are the names of the first n words in the list?
@@ -89,7 +92,7 @@ fn words_known(
     true
 }
 
-// Have the first n words the widths that they ask for?
+// Are the names of the first n words in the list, with the widths that they ask for?
 fn words_fit(
     text: &[u8],
     symbols: &[usize],
@@ -123,13 +126,13 @@ pub(crate) fn judge(text: &[u8], symbols: &[usize], total: usize, field: &[u8]) 
         return Judged::Faulty(Fault::TooDeep);
     }
     let n = f.count;
-    if !words_known(text, symbols, total, field, &f.words, n) {
-        return Judged::Faulty(Fault::UnknownName);
+    if words_fit(text, symbols, total, field, &f.words, n) {
+        return Judged::Fine;
     }
-    if !words_fit(text, symbols, total, field, &f.words, n) {
+    if words_known(text, symbols, total, field, &f.words, n) {
         return Judged::Faulty(Fault::WrongWidth);
     }
-    Judged::Fine
+    Judged::Faulty(Fault::UnknownName)
 }
 
 // Of two judgements the fault of the lower number.

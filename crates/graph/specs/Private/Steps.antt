@@ -59,13 +59,14 @@ wordKnown ns s w =
     (pick (leb 16777216 w) (pick (nameFound ns s ((w - 16777216) / 4096) .known) (nameFound ns s (w % 4096) .known) false)
     (nameFound ns s (w % 4096) .known))
 
--- a name by itself has one bit, a bit is below its name's width, and two names have equal widths
+-- a word's names are known, and fit: a name by itself has one bit, a bit is below its name's width, and two names have
+-- equal widths; an unknown name has width 0
 unfoldable pub wordFits : List Declared → Bytes → ℕ → Bool
 wordFits ns s w =
     pick (leb 4096 w && ltb w 8192) true
     (pick (ltb w 4096) (eqb (nameFound ns s (w % 4096) .width) 1)
     (pick (ltb w 16777216) (ltb (w / 8192 - 1) (nameFound ns s (w % 4096) .width))
-    (eqb (nameFound ns s ((w - 16777216) / 4096) .width) (nameFound ns s (w % 4096) .width))))
+    (pick (nameFound ns s ((w - 16777216) / 4096) .known && nameFound ns s (w % 4096) .known) (eqb (nameFound ns s ((w - 16777216) / 4096) .width) (nameFound ns s (w % 4096) .width)) false)))
 
 -- every word passes a test
 unfoldable pub allWords : (ℕ → Bool) → List ℕ → Bool

@@ -5,7 +5,7 @@ use mathlib.Core.Logic.{⊎-elim}
 use native.Mathlib.Omega.{arith}
 use borrow.Author.Needs.{needs}
 use borrow.Author.Tests.{ltb-true, ltb-false}
-use Rattle.graph.proofs.WordLaws.{fits-byte, fits-name, fits-bit, fits-alike}
+use Rattle.graph.proofs.WordLaws.{fits-byte, fits-name, fits-bit, alike-found, left-missing, right-missing}
 use Rattle.graph.proofs.formulas.word_fits.Statement.{statement}
 use Rattle.graph.proofs.formulas.word_fits.Tie as tie
 
@@ -37,8 +37,15 @@ found-in-requires-2 c κs = search needs
 
 returns-4 : tie.Need-returns-4
 returns-4 c =
-    let f = c .before .before in
-    rw (f .found-in2 .ensures, f .before .before .before .found-in .ensures) (sym (fits-alike _ _ _ (f .before .if4 .left)))
+    let j = c .before .before .before .before in
+    alike-found _ _ _ (j .before .if4 .left) (j .found-in2 .ensures) (j .before .before .before .found-in .ensures) (c .before .before .before .if5 .taken) (c .before .before .if6 .taken)
+
+returns-5 : tie.Need-returns-5
+returns-5 c =
+    let l = c .before .before .if4 .left in
+    ⊎-elim
+    (λ x. right-missing _ _ _ l (c .before .found-in2 .ensures) (c .before .before .before .before .found-in .ensures) (x .0 .taken) (x .1 .left))
+    (λ x. left-missing _ _ _ l (c .before .found-in2 .ensures) (x .left)) (c .if5 .came)
 
 pub word-fits-spec : {M : Type 1} → statement M
 word-fits-spec =
@@ -50,4 +57,5 @@ word-fits-spec =
     sub-result
     returns-3
     found-in-requires-2
-    returns-4)
+    returns-4
+    returns-5)

@@ -12,7 +12,7 @@
      else that is lent to it; what is only read may be lent twice.
      The tally and what is lent to be read must be initialised; buffers that are only filled need not be.
      A call fills a buffer from its start; where the buffer is longer than needed, the rest stays as it was.
-     ludo_build takes up to 200 KB of stack, for deep formulas; the other calls take under 4 KB.
+     ludo_build takes up to 220 KB of stack, for deep formulas; the other calls take under 4 KB.
 
    Return code
      0 where the call is accepted. Else the call is refused, and the code is number * 2^32 + line, which

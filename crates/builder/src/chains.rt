@@ -95,7 +95,8 @@ pub(crate) fn put_or(
     }
 }
 
-// Accept: NOT of the OR of condemned-now over the terminal edges, which is the AND of NOT condemned-now.
+// Accept: NOT of the OR of condemned-now over the terminal edges, which is the AND of NOT condemned-now. So are the bits
+// of `==` joined: each bit's key is that of a terminal edge, and its literal tells that it differs.
 pub(crate) fn put_accept(
     out: &mut [u16],
     f: Variable,

@@ -30,9 +30,10 @@ pub(crate) const BYTES: usize = 4096;
 
 const PLACE: usize = 16;
 
-// From here on a word is one bit of a name, and from there on two names compared.
+// From here on a word is one bit of a name.
 pub(crate) const BITS: usize = 8192;
 
+// From here on a word is two names compared.
 pub(crate) const ALIKE: usize = 16777216;
 
 // No name has more bits.

@@ -6,11 +6,12 @@ use mathlib.Core.List.{List, [], _∷_, _++_}
 use native.Mathlib.Omega.{arith}
 use lib.ListN.{length, getD, List·getD-append}
 use lib.Seq.{getD-append-add}
-use Rattle.assertion.specs.Graph.{Run}
+use Rattle.assertion.specs.Graph.{Run, operators}
 use Rattle.circuit.specs.Gates.{lit, inv, Gate, gate, Piece}
 use Rattle.circuit.specs.Build.{andFrom, andAll, Bits, bitLiteral, sameBits, alikeOf, formula}
+use Rattle.circuit.specs.Count.{formulaGates}
 use Rattle.circuit.specs.Claims.{gateAt, sameAt, AlikeGates, AlikeMeans}
-use Rattle.circuit.proofs.Count.{bits-length}
+use Rattle.circuit.proofs.Count.{bits-length, alike-length}
 
 -- ---- the gates of the bits
 module _ (s : ℕ) (a b : Run) where
@@ -104,6 +105,7 @@ module _ (s n : ℕ) (a b : Run) (w : ℕ) where
   unfolding alikeOf
   alike-gates =
       record {
+        count = alike-length s n a b w;
         both = λ i l. early (3 * i) (omega arith) ∙ three i l .0;
         neither = λ i l. subst (λ (x : ℕ). gateAt xs x ≡ gate (inv (bitLiteral s a i)) (inv (bitLiteral s b i))) (omega arith) (early (suc (3 * i)) (omega arith) ∙ three i l .1);
         differ = λ i l.
@@ -125,5 +127,5 @@ module _ (s n : ℕ) (a b : Run) (w : ℕ) where
 
 -- THE LAW
 pub alike-means : AlikeMeans
-unfolding formula bitLiteral
-alike-means = record { gates = alike-gates; signal-bit = λ s n j i. refl; constant-bit = λ s n j i. refl }
+unfolding formula bitLiteral formulaGates operators
+alike-means = record { gates = alike-gates; costs = λ a b w. refl; counts = λ a b w. refl; signal-bit = λ s n j i. refl; constant-bit = λ s n j i. refl }

@@ -3,10 +3,11 @@
 use Prim.Native.Nat.{ℕ, _+_, _-_, _*_, _<_, _≤_}
 use mathlib.Core.Path.{_≡_}
 use mathlib.Core.List.{List}
-use lib.ListN.{getD}
-use Rattle.assertion.specs.Graph.{Run, signalsFrom, constantsFrom, signal, constant, alike}
+use lib.ListN.{length, getD}
+use Rattle.assertion.specs.Graph.{Run, signalsFrom, constantsFrom, signal, constant, alike, operators}
 use Rattle.circuit.specs.Gates.{lit, inv, Gate, gate, Piece}
 use Rattle.circuit.specs.Build.{bitLiteral, formula}
+use Rattle.circuit.specs.Count.{formulaGates}
 
 abbrev pub gateAt : List Gate → ℕ → Gate
 gateAt xs k = getD xs k (gate 0 0)
@@ -17,6 +18,7 @@ sameAt n i = inv (lit (n + 3 * i + 2))
 
 -- of gates over s signal bits from the variable n on, that compare w bits of a and b
 pub record AlikeGates (s n : ℕ) (a b : Run) (w : ℕ) (p : Piece) : Type 0 where
+  pub count : length (p .gates) ≡ 4 * w - 1
   -- bit i: both, neither, neither of those
   pub both : (i : ℕ) → i < w → gateAt (p .gates) (3 * i) ≡ gate (bitLiteral s a i) (bitLiteral s b i)
   pub neither : (i : ℕ) → i < w → gateAt (p .gates) (3 * i + 1) ≡ gate (inv (bitLiteral s a i)) (inv (bitLiteral s b i))
@@ -28,8 +30,11 @@ pub record AlikeGates (s n : ℕ) (a b : Run) (w : ℕ) (p : Piece) : Type 0 whe
   pub last : 2 ≤ w → p .out ≡ lit (n + (4 * w - 2))
   pub alone : w ≡ 1 → p .out ≡ sameAt n 0
 
--- THE CLAIM: so are the gates of `==`, and a bit of a name has the literal of that signal bit or constant bit
+-- THE CLAIM: so are the gates of `==`, "it enters F thus and counts as that many operators in the bound"; and a bit of
+-- a name has the literal of that signal bit or constant bit
 pub record AlikeMeans : Type 0 where
   pub gates : (s n : ℕ) (a b : Run) (w : ℕ) → AlikeGates s n a b w (formula s n (alike a b w))
+  pub costs : (a b : Run) (w : ℕ) → formulaGates (alike a b w) ≡ 4 * w - 1
+  pub counts : (a b : Run) (w : ℕ) → operators (alike a b w) ≡ 4 * w - 1
   pub signal-bit : (s n j i : ℕ) → bitLiteral s (signalsFrom j) i ≡ formula s n (signal (j + i)) .out
   pub constant-bit : (s n j i : ℕ) → bitLiteral s (constantsFrom j) i ≡ formula s n (constant (j + i)) .out

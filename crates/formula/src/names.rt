@@ -19,7 +19,7 @@ use text::byte_at;
 // What a name and what belongs to it are: of no such form; or a word, and the place after it.
 pub enum Word {
     Wrong,
-    Known { next: usize, word: u32 },
+    Formed { next: usize, word: u32 },
 }
 
 // The word of a name is so many times its place, and its length.
@@ -97,7 +97,7 @@ fn bit_word(s: &[u8], name: u32, at: usize) -> Word
     let i = read_index(s, at);
     if i.formed {
         if byte_at(s, i.next) == b']' {
-            return Word::Known {
+            return Word::Formed {
                 next: i.next + 1,
                 word: BIT * (i.value + 1) + name,
             };
@@ -115,7 +115,7 @@ fn alike_word(s: &[u8], name: u32, at: usize) -> Word
     let len = end - at;
     if is_letter(byte_at(s, at)) {
         if len <= LONGEST_NAME {
-            return Word::Known {
+            return Word::Formed {
                 next: end,
                 word: ALIKE + LEFT * name + (at * PLACE + len) as u32,
             };
@@ -144,5 +144,5 @@ pub(crate) fn name_word(s: &[u8], at: usize) -> Word
             return alike_word(s, word, end + 2);
         }
     }
-    Word::Known { next: end, word }
+    Word::Formed { next: end, word }
 }

@@ -119,7 +119,7 @@ fn name(s: &[u8], at: usize, out: &mut [u32], n: usize) -> Read
     let found = name_word(s, at);
     match found {
         Word::Wrong => Read::Failed,
-        Word::Known { next, word } => {
+        Word::Formed { next, word } => {
             out[n] = word;
             Read::Done {
                 next,

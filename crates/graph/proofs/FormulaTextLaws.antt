@@ -1,17 +1,20 @@
--- Laws of the names and widths in an edge's formulas, by what the formulas mean: with a name that is no signal's and
--- no constant's its line is refused with 9, with one that means nothing for its widths with 19, and with formulas that
--- mean something it is taken. Byte 9 is a tab, 10 LF, 69 `E`. Assumes nothing.
-use Prim.Native.Nat.{ℕ, suc, _+_, _≤_, _<_}
+-- Laws of an edge's formulas, by what a formula is and means: an edge's line with a field that is no formula is refused
+-- with 7, with a formula over 16 deep with 8, with a name that is no signal's and no constant's with 9, with one that
+-- means nothing for its widths with 19, and with formulas that mean something it is taken. Byte 9 is a tab, 10 LF,
+-- 69 `E`. Assumes nothing.
+use Prim.Native.Nat.{ℕ, suc, _+_, _≤_, _<_, max}
 use mathlib.Core.Path.{_≡_, refl, sym, ap, _∙_}
 use mathlib.Core.Bool.{Bool, true, false}
 use mathlib.Core.List.{List, [], _∷_, _++_, List·Memᴰ, List·Memᴰ·head, List·Memᴰ·tail}
 use native.Mathlib.Nat.{add-zero}
 use native.Mathlib.Omega.{arith}
-use borrow.Author.Tests.{ne-eqb, lt-ltb, le-ltb, lt-leb}
+use borrow.Author.Tests.{ne-eqb, lt-ltb, le-ltb, ltb-false, lt-leb}
+use lib.Dec.{ltb}
 use lib.ListN.{length, getD, take, drop}
 use Rattle.text.specs.Lines.{StartsLine}
 use Rattle.formula.specs.Classes.{pick, isName}
-use Rattle.formula.specs.Grammar.{Tree, name, bitOf, alike, bit, not, group, join, depthOf}
+use Rattle.formula.specs.Grammar.{Tree, name, bitOf, alike, bit, not, group, join, Parsed, none, tree, treeOf, depthOf}
+use Rattle.formula.specs.Claims.{IsFormula}
 use Rattle.formula.proofs.GrammarComplete.{grammar-means}
 use Rattle.formula.proofs.PostfixLaws.{in-field}
 use Rattle.assertion.specs.Graph.{Bytes, Expr, Name, Edge, Graph, bitsOf, signalBits}
@@ -20,12 +23,11 @@ use Rattle.graph.specs.Records.{edge, marked, edged, ofFields, recordOf}
 use Rattle.graph.specs.Reading.{namesOf, foundAt, known, fits, resolved, judgedTree, judgedFormula, treeExpr, exprOf, edgeOf, lower, faultNumber, Step, fault, went, unlessFaulty, judgeEdge, addEdge, add, accepted, finished, readLines, nothing, graphOf}
 use Rattle.graph.specs.Meaning.{EachWidth, Means}
 use Rattle.graph.specs.Claims.{breaks, IsField}
-use Rattle.graph.specs.ModeClaims.{RefusedAfter}
-use Rattle.graph.specs.ModeClaims.RefusedAfter.{here}
+use Rattle.graph.specs.ModeClaims.{RefusedHere}
 use Rattle.graph.specs.FormulaClaims.{Known, AllKnown, Formed, edgeLine, EdgeNext, Taken, FormulaMeans}
 use Rattle.graph.specs.Held.{readOf}
 use Rattle.graph.specs.declared.Fault.{Fault}
-use Rattle.graph.specs.declared.Fault.the-variants.{UnknownName, WrongWidth}
+use Rattle.graph.specs.declared.Fault.the-variants.{NotFormula, TooDeep, UnknownName, WrongWidth}
 use Rattle.graph.specs.declared.Judged.{Judged}
 use Rattle.graph.specs.declared.Judged.the-variants.{Fine, Faulty}
 use Rattle.graph.specs.declared.Cause.the-variants.{FaultyLine}
@@ -98,13 +100,56 @@ unfolding lookUp
 vertex-known {n} {vs} m = lt-ltb (placeOf n vs) (length vs) (place-inside n vs m)
 
 -- ---- two formulas judged
--- a formula of the grammar that is not too deep: its names known or not, its widths fitting or not
+-- a formula that is not too deep: its names known or not, its widths fitting or not
 abbrev verdict : Bool → Bool → Judged
 verdict k f = pick k (pick f Fine (Faulty WrongWidth)) (Faulty UnknownName)
 
-formed-judged : (ds : List Declared) {s : Bytes} {e : Tree} → Formed s e → judgedFormula ds s ≡ verdict (known ds s e) (fits ds s e)
+-- a formula, too deep or not
+abbrev graded : Bool → Bool → Bool → Judged
+graded d k f = pick d (Faulty TooDeep) (verdict k f)
+
+tree-judged : (ds : List Declared) {s : Bytes} {e : Tree} → IsFormula s e → judgedFormula ds s ≡ graded (ltb 16 (depthOf e)) (known ds s e) (fits ds s e)
 unfolding judgedTree
-formed-judged ds {s} {e} h = rw (grammar-means s .every e (h .is), judgedTree, le-ltb 16 (depthOf e) (h .shallow))
+tree-judged ds {s} {e} h = rw (grammar-means s .every e h, judgedTree)
+
+formed-judged : (ds : List Declared) {s : Bytes} {e : Tree} → Formed s e → judgedFormula ds s ≡ verdict (known ds s e) (fits ds s e)
+formed-judged ds {s} {e} h = tree-judged ds (h .is) ∙ rw (le-ltb 16 (depthOf e) (h .shallow))
+
+-- no formula is the lowest fault
+lower-unformed : (d k f : Bool) → (lower (Faulty NotFormula) (graded d k f) ≡ Faulty NotFormula) × (lower (graded d k f) (Faulty NotFormula) ≡ Faulty NotFormula)
+unfolding lower faultNumber
+lower-unformed true k f = (refl, refl)
+lower-unformed false true true = (refl, refl)
+lower-unformed false true false = (refl, refl)
+lower-unformed false false f = (refl, refl)
+
+unformed-judged : (ds : List Declared) {a c : Bytes} → ((ea ec : Tree) → IsFormula a ea → IsFormula c ec → ⊥) → lower (judgedFormula ds a) (judgedFormula ds c) ≡ Faulty NotFormula
+unfolding judgedTree lower faultNumber
+unformed-judged ds {a} {c} n = by (treeOf a) (treeOf c) refl refl
+  where
+    by : (p q : Parsed) → treeOf a ≡ p → treeOf c ≡ q → lower (judgedTree ds a p) (judgedTree ds c q) ≡ Faulty NotFormula
+    by none none i j = refl
+    by none (tree e) i j = lower-unformed (ltb 16 (depthOf e)) (known ds c e) (fits ds c e) .0
+    by (tree e) none i j = lower-unformed (ltb 16 (depthOf e)) (known ds a e) (fits ds a e) .1
+    by (tree e) (tree f) i j = absurd (n e f (grammar-means a .only e i) (grammar-means c .only f j))
+
+-- too deep is the lower fault of two formulas
+lower-deep : (d m k l f h : Bool) → (d ≡ false → m ≡ false → ⊥) → lower (graded d k f) (graded m l h) ≡ Faulty TooDeep
+unfolding lower faultNumber
+lower-deep true true k l f h n = refl
+lower-deep true false k true f true n = refl
+lower-deep true false k true f false n = refl
+lower-deep true false k false f h n = refl
+lower-deep false true true l true h n = refl
+lower-deep false true true l false h n = refl
+lower-deep false true false l f h n = refl
+lower-deep false false k l f h n = absurd (n refl refl)
+
+deep-judged : (ds : List Declared) {a c : Bytes} {ea ec : Tree} → IsFormula a ea → IsFormula c ec → 16 < max (depthOf ea) (depthOf ec) → lower (judgedFormula ds a) (judgedFormula ds c) ≡ Faulty TooDeep
+deep-judged ds {a} {c} {ea} {ec} ha hc deep =
+    rw (tree-judged ds ha, tree-judged ds hc)
+    (lower-deep (ltb 16 (depthOf ea)) (ltb 16 (depthOf ec)) (known ds a ea) (known ds c ec) (fits ds a ea) (fits ds c ec)
+    (λ i j. omega (arith, ltb-false 16 (depthOf ea) i, ltb-false 16 (depthOf ec) j)))
 
 -- an unknown name is the lower fault
 lower-unknown : (k l f h : Bool) → (k ≡ true → l ≡ true → ⊥) → lower (verdict k f) (verdict l h) ≡ Faulty UnknownName
@@ -211,21 +256,25 @@ module _ {text before : Bytes} (line after : Bytes) {g : Graph} (starts : Starts
       ∙ read-on nothing 1 (its .ls) (split 10 rest) (split-some 10 rest) (ap (readLines nothing 1) (sym (its .alone)) ∙ accepted-lines before taken)
       ∙ ap (readLines g (1 + length (its .ls))) (split-joined 10 line after ∙ ap (λ (l : List Bytes). l ++ split 10 after) one)
 
-  line-faulty : split 10 line ≡ line ∷ [] → {f : Fault} → add g (recordOf line) ≡ fault f → length text ≤ 32768 → {r : GraphRead} → r ≡ readOf text → RefusedAfter before (faultNumber f) r
+  line-faulty : split 10 line ≡ line ∷ [] → {f : Fault} → add g (recordOf line) ≡ fault f → length text ≤ 32768 → {r : GraphRead} → r ≡ readOf text → RefusedHere before (faultNumber f) r
   line-faulty one {f} wrong short e =
       let n : 1 + length (its .ls) ≡ breaks before + 1 = omega (arith, its .count) in
-      here (FaultyLine f (1 + length (its .ls))) (refused-outcome text (read-line one short ∙ read-some g (1 + length (its .ls)) line (split 10 after) (split-some 10 after) wrong) e) (numbered f n)
+      record {
+        cause = FaultyLine f (1 + length (its .ls));
+        outcome = refused-outcome text (read-line one short ∙ read-some g (1 + length (its .ls)) line (split 10 after) (split-some 10 after) wrong) e;
+        refusal = numbered f n;
+      }
 
   -- or, as the last, is taken
-  line-taken : split 10 line ≡ line ∷ [] → after ≡ [] → {more : Graph} → add g (recordOf line) ≡ went more → 1 ≤ length (more .vertices) → length text ≤ 32768 → graphOf text ≡ accepted more
+  pub line-taken : split 10 line ≡ line ∷ [] → after ≡ [] → {more : Graph} → add g (recordOf line) ≡ went more → 1 ≤ length (more .vertices) → length text ≤ 32768 → graphOf text ≡ accepted more
   unfolding readLines split finished
-  line-taken one none {more} goes filled short =
+  line-taken one last {more} goes filled short =
       read-line one short
       ∙ read-next g (1 + length (its .ls)) line (split 10 after) (split-some 10 after) goes
-      ∙ rw (none, ne-eqb (length (more .vertices)) 0 (λ e. omega (arith, e, filled)))
+      ∙ rw (last, ne-eqb (length (more .vertices)) 0 (λ e. omega (arith, e, filled)))
 
 -- an edge's line after such a text
-module _ {text before : Bytes} {g : Graph} {a c : Bytes} {ea ec : Tree} (h : EdgeNext text before g a c ea ec) where
+module _ {text before : Bytes} {g : Graph} {a c : Bytes} (h : EdgeNext text before g a c) where
   abbrev line-of : Bytes
   line-of = edgeLine (h .from) (h .to) (h .mark) a c
 
@@ -235,33 +284,35 @@ module _ {text before : Bytes} {g : Graph} {a c : Bytes} {ea ec : Tree} (h : Edg
   one-line : split 10 line-of ≡ line-of ∷ []
   one-line =
       let m = marked-by (h .is-mark) in
-      rw (m .1) (edge-whole (h .from) (h .to) (m .0) a c (h .from-name) (h .to-name) (h .antecedent .field) (h .consequent .field))
+      rw (m .1) (edge-whole (h .from) (h .to) (m .0) a c (h .from-name) (h .to-name) (h .antecedent) (h .consequent))
 
   edge-step : add g (recordOf line-of) ≡ unlessFaulty (lower (judgedFormula (namesOf g) a) (judgedFormula (namesOf g) c)) g edge-of
   edge-step =
       let m = marked-by (h .is-mark) in
       ap (λ (k : ℕ). add g (recordOf (edgeLine (h .from) (h .to) k a c))) (m .1)
-      ∙ ap (add g) (edge-record (h .from) (h .to) (m .0) a c (h .from-name) (h .to-name) (h .antecedent .field) (h .consequent .field))
+      ∙ ap (add g) (edge-record (h .from) (h .to) (m .0) a c (h .from-name) (h .to-name) (h .antecedent) (h .consequent))
       ∙ edge-judged g (h .from) (h .to) (m .0) a c (h .room) (h .from-vertex) (h .to-vertex)
 
   -- refused for its formulas
-  formulas-faulty : {f : Fault} → lower (judgedFormula (namesOf g) a) (judgedFormula (namesOf g) c) ≡ Faulty f → length text ≤ 32768 → {r : GraphRead} → r ≡ readOf text → RefusedAfter before (faultNumber f) r
+  formulas-faulty : {f : Fault} → lower (judgedFormula (namesOf g) a) (judgedFormula (namesOf g) c) ≡ Faulty f → length text ≤ 32768 → {r : GraphRead} → r ≡ readOf text → RefusedHere before (faultNumber f) r
   unfolding unlessFaulty
   formulas-faulty j short e = line-faulty line-of (h .after) (h .starts) (h .bytes) (h .read) one-line (edge-step ∙ rw j) short e
 
   -- or taken with what they mean
-  formulas-taken : h .after ≡ [] → {x y : Expr} → Means (g .signals) (g .constants) a ea x → Means (g .signals) (g .constants) c ec y → length text ≤ 32768 → Taken text g (h .from) (h .to) (h .mark) x y
+  formulas-taken : {ea ec : Tree} → Formed a ea → Formed c ec → h .after ≡ [] → {x y : Expr} → Means (g .signals) (g .constants) a ea x → Means (g .signals) (g .constants) c ec y → length text ≤ 32768 → Taken text g (h .from) (h .to) (h .mark) a c x y
   unfolding unlessFaulty lower edgeOf lookUp
-  formulas-taken last hx hy short =
+  formulas-taken ha hc last hx hy short =
       let s = sound before (h .read) in
       record {
         edge = edge-of;
-        read = line-taken line-of (h .after) (h .starts) (h .bytes) (h .read) one-line last (edge-step ∙ rw (formula-fine g (s .widths) (s .names-differ) (h .antecedent) hx, formula-fine g (s .widths) (s .names-differ) (h .consequent) hy)) (s .some-vertex) short;
+        read = line-taken line-of (h .after) (h .starts) (h .bytes) (h .read) one-line last (edge-step ∙ rw (formula-fine g (s .widths) (s .names-differ) ha hx, formula-fine g (s .widths) (s .names-differ) hc hy)) (s .some-vertex) short;
         leaves = place-finds (h .from) (g .vertices) (h .from-vertex);
         enters = place-finds (h .to) (g .vertices) (h .to-vertex);
         marked = marked-by (h .is-mark) .1;
-        antecedent = formula-read g (s .widths) (s .names-differ) (h .antecedent) hx;
-        consequent = formula-read g (s .widths) (s .names-differ) (h .consequent) hy;
+        antecedent = formula-read g (s .widths) (s .names-differ) ha hx;
+        consequent = formula-read g (s .widths) (s .names-differ) hc hy;
+        antecedent-text = refl;
+        consequent-text = refl;
       }
 
 -- THE LAW
@@ -269,9 +320,11 @@ pub formula-means : (text : Bytes) {r : GraphRead} → r ≡ readOf text → For
 unfolding faultNumber
 formula-means text e =
     record {
-      unknown = λ before g a c ea ec h n short.
-          formulas-faulty h (unknown-judged (g .signals) (g .constants) (sound before (h .read) .widths) (h .antecedent) (h .consequent) n) short e;
-      widths = λ before g a c ea ec h k n short.
-          formulas-faulty h (width-judged (g .signals) (g .constants) (sound before (h .read) .widths) (h .antecedent) (h .consequent) (sound before (h .read) .names-differ) k n) short e;
-      taken = λ before g a c ea ec h last x y hx hy short. formulas-taken h last hx hy short;
+      unformed = λ before g a c h n short. formulas-faulty h (unformed-judged (namesOf g) n) short e;
+      deep = λ before g a c ea ec h ha hc d short. formulas-faulty h (deep-judged (namesOf g) ha hc d) short e;
+      unknown = λ before g a c ea ec h ha hc n short.
+          formulas-faulty h (unknown-judged (g .signals) (g .constants) (sound before (h .read) .widths) ha hc n) short e;
+      widths = λ before g a c ea ec h ha hc k n short.
+          formulas-faulty h (width-judged (g .signals) (g .constants) (sound before (h .read) .widths) ha hc (sound before (h .read) .names-differ) k n) short e;
+      taken = λ before g a c ea ec h ha hc last x y hx hy short. formulas-taken h ha hc last hx hy short;
     }

@@ -15,7 +15,7 @@ use Rattle.formula.specs.Grammar.{Parsed, none, tree, treeOf, depthOf}
 use Rattle.formula.proofs.PostfixLaws.{words-some, words-fit, in-field}
 use Rattle.assertion.specs.Graph.{Bytes, Expr, Name, Edge, Graph, bitsOf, signalBits, constantBits, isTerminal}
 use Rattle.assertion.specs.declared.Mode.{Mode}
-use Rattle.graph.specs.Pieces.{split, pieceAt, lookUp, Declared, placed, lookUpName}
+use Rattle.graph.specs.Pieces.{split, endAt, pieceAt, lookUp, Declared, placed, lookUpName}
 use Rattle.graph.specs.Records.{Record, shapeless, mode, signal, constant, vertex, edge, recordOf}
 use Rattle.graph.specs.Reading.{
   modeLines,
@@ -137,6 +137,11 @@ module _ (ss cs : List Name) (wide : EachWidth (ss ++ cs)) (s : Bytes) where
 
   formula-sound : judgedFormula (placed 0 (ss ++ cs)) s ≡ Fine → FormulaSound ss cs s (treeExpr (bitsOf ss) (placed 0 (ss ++ cs)) s (treeOf s))
   formula-sound h = tree-sound (treeOf s) refl h
+
+-- a field begins behind the tab that ends the one before it
+next-field : (text : Bytes) (n k : ℕ) → fieldAt text n (suc k) ≡ fieldAt text n k + fieldLength (lineOf text n) k + 1
+unfolding fieldAt fieldStart fieldLength endAt
+next-field text n k = omega arith
 
 -- ---- one more name, and one more edge
 held-more : (text : Bytes) (n : ℕ) (xs : List Name) (x : Name) → held text (symbolsOf text n 0 xs) ≡ placed 0 xs → NameAt text (n + length xs) (x .name) → length (x .name) ≤ 15 → x .width ≤ 16 → bitsOf xs ≤ 69 → held text (symbolsOf text n 0 (xs ++ (x ∷ []))) ≡ placed 0 (xs ++ (x ∷ []))
@@ -365,6 +370,7 @@ module _ (text : Bytes) (graph : Graph) (g : Grown text graph) where
                 terminal-is = refl;
                 mark-is = p .2;
                 antecedent-at = p .0;
+                one-tab = next-field text (recordsOf graph) 4;
                 consequent-at = p .1;
                 antecedent-sound = formula-sound (graph .signals) (graph .constants) (g .widths) a (l .0);
                 consequent-sound = formula-sound (graph .signals) (graph .constants) (g .widths) c (l .1);

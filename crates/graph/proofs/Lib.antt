@@ -2,6 +2,7 @@
 pub mod PieceLaws
 pub mod SplitLaws
 pub mod BreakLaws
+pub mod LookUpLaws
 pub mod NameLaws
 pub mod WidthFieldLaws
 pub mod RecordLaws
@@ -24,6 +25,7 @@ pub mod WidthTextLaws
 pub mod SymbolTextLaws
 pub mod TakenLaws
 pub mod FormulaTextLaws
+pub mod VertexTextLaws
 pub mod UnseenLaws
 pub mod MarkLaws
 pub mod AnswerLaws

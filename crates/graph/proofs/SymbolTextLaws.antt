@@ -15,13 +15,13 @@ use Rattle.formula.specs.Classes.{pick, classOf, isLetter, isWordClass, inName,
 use Rattle.formula.proofs.ByteLaws.{name-is}
 use Rattle.assertion.specs.Graph.{Bytes, Name, Graph, signalBits, constantBits}
 use Rattle.assertion.specs.declared.Mode.{Mode}
+use Rattle.assertion.specs.declared.Mode.the-variants.{Unsaid}
 use Rattle.graph.specs.Pieces.{onto, split, same, placeOf, lookUp, placed, lookUpName}
 use Rattle.graph.specs.Records.{signal, constant, sized, named, ofFields, recordOf}
 use Rattle.graph.specs.Reading.{faultNumber, refusalOf, namesOf, sizedName, Step, fault, went, addSignal, addConstant, addVertex, add, refused, accepted, finished, readLines, nothing, graphOf}
 use Rattle.graph.specs.Claims.{breaks, IsField, WidthField}
 use Rattle.graph.specs.Claims.WidthField.{absent, given}
-use Rattle.graph.specs.ModeClaims.{RefusedAfter}
-use Rattle.graph.specs.ModeClaims.RefusedAfter.{here}
+use Rattle.graph.specs.ModeClaims.{RefusedHere}
 use Rattle.graph.specs.WidthClaims.{vertexLine, SymbolNext, New}
 use Rattle.graph.specs.Held.{readOf}
 use Rattle.graph.specs.declared.Fault.{Fault}
@@ -68,12 +68,17 @@ module _ (kind : ℕ) (late : 69 < kind) (name : Bytes) (is-name : isName name �
   line-plain : {field : Bytes} {w : ℕ} → WidthField field w → Without 10 (kind ∷ 9 ∷ (name ++ field))
   line-plain f = one-without (λ e. omega (arith, late)) (one-without (λ e. omega arith) (joined-without name (name-field name is-name .no-lf) (field-plain f)))
 
+  -- two fields
+  pub line-named : recordOf (kind ∷ 9 ∷ name) ≡ named (kind ∷ []) name
+  unfolding recordOf ofFields
+  line-named =
+      let k : Without 9 (kind ∷ []) = one-without (λ e. omega (arith, late)) (none-empty 9) in
+      rw (split-joined 9 (kind ∷ []) name, split-whole 9 (kind ∷ []) k, split-whole 9 name (name-field name is-name .no-tab))
+
   -- of a kind that two fields give a width of 1
   line-sized : named (kind ∷ []) name ≡ sized (kind ∷ []) name 1 → {field : Bytes} {w : ℕ} → WidthField field w → recordOf (kind ∷ 9 ∷ (name ++ field)) ≡ sized (kind ∷ []) name w
   unfolding recordOf ofFields isDigit
-  line-sized one absent =
-      let k : Without 9 (kind ∷ []) = one-without (λ e. omega (arith, late)) (none-empty 9) in
-      rw (append-nil name, split-joined 9 (kind ∷ []) name, split-whole 9 (kind ∷ []) k, split-whole 9 name (name-field name is-name .no-tab)) one
+  line-sized one absent = rw (append-nil name) (line-named ∙ one)
   line-sized one (given w i) =
       rw (fields-are kind late (digits w) (name-field name is-name), split-whole 9 (digits w) (digits-without 9 refl (digits w) (each-digits w)), width-digits w (i .some) (i .most))
 
@@ -132,6 +137,10 @@ vertex-read g n = refl
 vertex-last : (m : Mode) (ss cs : List Name) (n : ℕ) → readLines (declared m ss cs) n (split 10 vertexLine) ≡ accepted (record { mode = m; signals = ss; constants = cs; vertices = v ∷ []; edges = [] })
 unfolding addVertex lookUp placeOf finished
 vertex-last m ss cs n = vertex-read (declared m ss cs) n
+
+-- with none before it, it is a text
+pub vertex-alone : graphOf vertexLine ≡ accepted (plusVertex nothing v)
+vertex-alone = short-lines vertexLine (omega arith) ∙ vertex-last Unsaid [] [] 1
 
 -- where it is the first, the graph before it was bare
 record First (before g : Graph) : Type 0 where
@@ -201,21 +210,26 @@ module _ {text before : Bytes} (kind : ℕ) (late : 69 < kind) {name field after
       ap graphOf b ∙ its .further (line ++ (10 ∷ after)) l
       ∙ rw (split-joined 10 line after, split-whole 10 line (line-plain kind late name (s .is-name) (s .width)))
 
-  line-faulty : (f : Fault) → add (bare g) (recordOf line) ≡ fault f → RefusedAfter before (faultNumber f) (readOf text)
+  line-faulty : (f : Fault) → add (bare g) (recordOf line) ≡ fault f → RefusedHere before (faultNumber f) (readOf text)
   unfolding refusalOf
-  line-faulty f a = here (FaultyLine f (breaks before + 1)) (refused-outcome text (read ∙ read-some (bare g) (breaks before + 1) line (split 10 after) (split-some 10 after) a) refl) refl
+  line-faulty f a =
+      record {
+        cause = FaultyLine f (breaks before + 1);
+        outcome = refused-outcome text (read ∙ read-some (bare g) (breaks before + 1) line (split 10 after) (split-some 10 after) a) refl;
+        refusal = refl;
+      }
 
   module _ (most bits : ℕ) (ss cs : List Name) (step : add (bare g) (recordOf line) ≡ pick (ltb most bits) (fault TooMany) (pick (lookUpName name (namesOf g) .known) (fault NameRepeated) (went (declared (g .mode) ss cs)))) where
-    bits-over : most < bits → RefusedAfter before 4 (readOf text)
+    bits-over : most < bits → RefusedHere before 4 (readOf text)
     unfolding faultNumber
     bits-over l = line-faulty TooMany (step ∙ rw (lt-ltb most bits l))
 
     module _ (l : bits ≤ most) where
-      name-again : (New g name → ⊥) → RefusedAfter before 5 (readOf text)
+      name-again : (New g name → ⊥) → RefusedHere before 5 (readOf text)
       unfolding faultNumber
       name-again h = by (lookUpName name (namesOf g) .known) refl
         where
-          by : (t : Bool) → lookUpName name (namesOf g) .known ≡ t → RefusedAfter before 5 (readOf text)
+          by : (t : Bool) → lookUpName name (namesOf g) .known ≡ t → RefusedHere before 5 (readOf text)
           by true e = line-faulty NameRepeated (step ∙ rw (le-ltb most bits l, e))
           by false e = absurd (h (λ x m q. let k = come-known name 0 (g .signals ++ g .constants) x m q in let z : _≡_ {A = ℕ} 0 1 = cc in omega arith))
 
@@ -239,16 +253,16 @@ module _ {text before name field after : Bytes} {w : ℕ} {g : Graph} where
 -- THE LAWS
 module _ (text before name field : Bytes) where
   module _ (after : Bytes) (w : ℕ) (g : Graph) where
-    pub signal-bits : SymbolNext text before 83 name field after w g → g .constants ≡ [] → 63 < signalBits g + w → length text ≤ 32768 → RefusedAfter before 4 (readOf text)
+    pub signal-bits : SymbolNext text before 83 name field after w g → g .constants ≡ [] → 63 < signalBits g + w → length text ≤ 32768 → RefusedHere before 4 (readOf text)
     signal-bits s none l short = bits-over 83 (omega arith) s short 63 (signalBits g + w) _ _ (signal-step s none) l
 
-    pub constant-bits : SymbolNext text before 75 name field after w g → 6 < constantBits g + w → length text ≤ 32768 → RefusedAfter before 4 (readOf text)
+    pub constant-bits : SymbolNext text before 75 name field after w g → 6 < constantBits g + w → length text ≤ 32768 → RefusedHere before 4 (readOf text)
     constant-bits s l short = bits-over 75 (omega arith) s short 6 (constantBits g + w) _ _ (constant-step s) l
 
-    pub signal-again : SymbolNext text before 83 name field after w g → g .constants ≡ [] → signalBits g + w ≤ 63 → (New g name → ⊥) → length text ≤ 32768 → RefusedAfter before 5 (readOf text)
+    pub signal-again : SymbolNext text before 83 name field after w g → g .constants ≡ [] → signalBits g + w ≤ 63 → (New g name → ⊥) → length text ≤ 32768 → RefusedHere before 5 (readOf text)
     signal-again s none l h short = name-again 83 (omega arith) s short 63 (signalBits g + w) _ _ (signal-step s none) l h
 
-    pub constant-again : SymbolNext text before 75 name field after w g → constantBits g + w ≤ 6 → (New g name → ⊥) → length text ≤ 32768 → RefusedAfter before 5 (readOf text)
+    pub constant-again : SymbolNext text before 75 name field after w g → constantBits g + w ≤ 6 → (New g name → ⊥) → length text ≤ 32768 → RefusedHere before 5 (readOf text)
     constant-again s l h short = name-again 75 (omega arith) s short 6 (constantBits g + w) _ _ (constant-step s) l h
 
   module _ (w : ℕ) (g : Graph) where

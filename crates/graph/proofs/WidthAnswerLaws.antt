@@ -5,13 +5,14 @@ use lib.ListN.{take}
 use Rattle.assertion.specs.Graph.{Bytes}
 use Rattle.graph.specs.Held.{readOf}
 use Rattle.graph.specs.Claims.{widthsOf, SymbolAt}
-use Rattle.graph.specs.ModeClaims.{RefusedAfter}
+use Rattle.graph.specs.ModeClaims.{RefusedHere, RefusedAfter}
 use Rattle.graph.specs.WidthClaims.{WidthMeans}
 use Rattle.graph.specs.declared.CheckedGraph.{CheckedGraph}
 use Rattle.graph.specs.declared.GraphRead.{GraphRead}
 use Rattle.graph.proofs.AnswerLaws.{CheckedText, checked-text}
 use Rattle.graph.proofs.WidthTextLaws.{signal-width, constant-width, vertex-width}
-use Rattle.graph.proofs.SymbolTextLaws.{signal-bits, constant-bits, signal-again, constant-again, signal-taken, constant-taken}
+use Rattle.graph.proofs.SymbolTextLaws.{signal-bits, constant-bits, signal-again, constant-again, signal-taken, constant-taken, vertex-alone}
+use Rattle.graph.proofs.VertexTextLaws.{vertex-taken}
 
 module _ (text : Bytes) (g : CheckedGraph) (c : CheckedText text g) where
   answered-symbol : (i : ℕ) → i < g .named → SymbolAt text g i
@@ -36,10 +37,12 @@ width-means text {r} e =
       signal-width = λ before name rest after l n s. subst (RefusedAfter before 2) (sym e) (signal-width text before name rest after l n s);
       constant-width = λ before name rest after l n s. subst (RefusedAfter before 2) (sym e) (constant-width text before name rest after l n s);
       vertex-width = λ before name rest after l s. subst (RefusedAfter before 2) (sym e) (vertex-width text before name rest after l s);
-      signal-bits = λ before name field after w g n none l s. subst (RefusedAfter before 4) (sym e) (signal-bits text before name field after w g n none l s);
-      constant-bits = λ before name field after w g n l s. subst (RefusedAfter before 4) (sym e) (constant-bits text before name field after w g n l s);
-      signal-again = λ before name field after w g n none l h s. subst (RefusedAfter before 5) (sym e) (signal-again text before name field after w g n none l h s);
-      constant-again = λ before name field after w g n l h s. subst (RefusedAfter before 5) (sym e) (constant-again text before name field after w g n l h s);
+      signal-bits = λ before name field after w g n none l s. subst (RefusedHere before 4) (sym e) (signal-bits text before name field after w g n none l s);
+      constant-bits = λ before name field after w g n l s. subst (RefusedHere before 4) (sym e) (constant-bits text before name field after w g n l s);
+      signal-again = λ before name field after w g n none l h s. subst (RefusedHere before 5) (sym e) (signal-again text before name field after w g n none l h s);
+      constant-again = λ before name field after w g n l h s. subst (RefusedHere before 5) (sym e) (constant-again text before name field after w g n l h s);
       signal-taken = signal-taken text;
       constant-taken = constant-taken text;
+      vertex-first = vertex-alone;
+      vertex-taken = vertex-taken text;
     }

@@ -1,11 +1,12 @@
--- What the contract of read_graph claims of an accepted text: its graph keeps to the limits, its names, marks and
--- formulas stand where the checked graph says, an edge's on its own line, its vertices and names are known, and each formula is of the grammar,
--- at most 16 deep, and means what its tree does. Assumes nothing.
+-- What the contract of read_graph claims of an accepted text: its graph keeps to the limits; its names, marks and
+-- formulas stand where the checked graph says, an edge's on its own line; its vertices and names are known; and each
+-- formula is of the grammar, at most 16 deep, and means what its tree does. And what look_up_name claims. Assumes
+-- nothing.
 use Prim.Native.Nat.{ℕ, _+_, _-_, _%_, _≤_, _<_}
 use Prim.Native.Char.{code}
 use mathlib.Core.Path.{_≡_}
-use mathlib.Core.Bool.{Bool, true, cond}
-use mathlib.Core.List.{List, [], _∷_, _++_, map}
+use mathlib.Core.Bool.{Bool, true, false, cond}
+use mathlib.Core.List.{List, [], _∷_, _++_, map, List·Memᴰ}
 use lib.Dec.{eqb}
 use lib.ListN.{length, getD, take, drop}
 use Rattle.text.specs.Lines.{StartsLine}
@@ -17,8 +18,15 @@ use Rattle.graph.specs.Pieces.{pieceAt, Declared, placed}
 use Rattle.graph.specs.Reading.{modeLines, known, fits, resolved, namesOf, accepted, graphOf}
 use Rattle.graph.specs.Meaning.{IsWidth, EachWidth, Means}
 use Rattle.graph.specs.Held.{symbolWord, declaredIn, noArc, heldOf}
+use Rattle.graph.specs.declared.FoundName.{FoundName}
 use Rattle.graph.specs.declared.Arc.{Arc}
 use Rattle.graph.specs.declared.CheckedGraph.{CheckedGraph}
+
+-- "Whoever looks up a name now receives its first place and its width": those of the first that has the name; and where
+-- none has, it is unknown
+pub record LookUpMeans (n : Bytes) (ds : List Declared) (r : FoundName) : Type 0 where
+  pub found : (before after : List Declared) (d : Declared) → ds ≡ before ++ (d ∷ after) → d .name ≡ n → ((e : Declared) → List·Memᴰ e before → e .name ≡ n → ⊥) → r ≡ record { known = true; place = d .place; width = d .width }
+  pub missing : ((e : Declared) → List·Memᴰ e ds → e .name ≡ n → ⊥) → r ≡ record { known = false; place = 0; width = 0 }
 
 -- the n bytes of the text from p on are x
 pub record FormulaAt (text : Bytes) (p n : ℕ) (x : Bytes) : Type 0 where
@@ -97,6 +105,7 @@ pub record EdgeSound (text : Bytes) (ss cs : List Name) (vs : List Bytes) (termi
   pub terminal-is : a .terminal ≡ terminal
   pub mark-is : getD text (a .left - 2) 0 ≡ cond (e .marked) (code "t") (code "-")
   pub antecedent-at : FormulaAt text (a .left) (a .lefts) (e .antecedentText)
+  pub one-tab : a .right ≡ a .left + a .lefts + 1
   pub consequent-at : FormulaAt text (a .right) (a .rights) (e .consequentText)
   pub antecedent-sound : FormulaSound ss cs (e .antecedentText) (e .antecedent)
   pub consequent-sound : FormulaSound ss cs (e .consequentText) (e .consequent)

@@ -39,6 +39,12 @@ pub data FirstLine (text : Bytes) : Mode → Type 0 where
   says : (word after : Bytes) (m : Mode) → ModeWord word m → ModeLine text [] word after → FirstLine text m
   silent : ((word after : Bytes) → ModeLine text [] word after → ⊥) → FirstLine text Unsaid
 
+-- the answer refuses the line after these bytes with this number
+pub record RefusedHere (before : Bytes) (number : ℕ) (r : GraphRead) : Type 0 where
+  pub cause : Cause
+  pub outcome : r .outcome ≡ Refused cause
+  pub refusal : refusalOf cause ≡ record { number = number; line = breaks before + 1 }
+
 -- the answer refuses the line after these bytes with this number; or these bytes by themselves are refused for one of
 -- their lines, and the answer refuses that line alike
 pub data RefusedAfter (before : Bytes) (number : ℕ) (r : GraphRead) : Type 0 where

@@ -11,10 +11,11 @@ use Rattle.text.specs.Lines.{StartsLine}
 use Rattle.text.specs.Numbers.{digits}
 use Rattle.formula.specs.Classes.{isName}
 use Rattle.assertion.specs.Graph.{Bytes, Name, Graph, signalBits, constantBits}
+use Rattle.assertion.specs.declared.Mode.the-variants.{Unsaid}
 use Rattle.graph.specs.Reading.{accepted, graphOf}
 use Rattle.graph.specs.Meaning.{IsWidth}
 use Rattle.graph.specs.Claims.{IsField, WidthField, widthsOf, SymbolAt}
-use Rattle.graph.specs.ModeClaims.{RefusedAfter}
+use Rattle.graph.specs.ModeClaims.{RefusedHere, RefusedAfter}
 use Rattle.graph.specs.declared.ReadOutcome.the-variants.{Checked}
 use Rattle.graph.specs.declared.GraphRead.{GraphRead}
 
@@ -55,10 +56,13 @@ pub record WidthMeans (text : Bytes) (r : GraphRead) : Type 0 where
   pub constant-width : (before name rest after : Bytes) → LongLine text before (code "K") name rest after → ((w : ℕ) → IsWidth w → rest ≡ digits w → ⊥) → length text ≤ 32768 → RefusedAfter before 2 r
   pub vertex-width : (before name rest after : Bytes) → LongLine text before (code "V") name rest after → length text ≤ 32768 → RefusedAfter before 2 r
   -- "a record past them is 4", before the name is looked at; then a name that has come is 5
-  pub signal-bits : (before name field after : Bytes) (w : ℕ) (g : Graph) → SymbolNext text before (code "S") name field after w g → g .constants ≡ [] → 63 < signalBits g + w → length text ≤ 32768 → RefusedAfter before 4 r
-  pub constant-bits : (before name field after : Bytes) (w : ℕ) (g : Graph) → SymbolNext text before (code "K") name field after w g → 6 < constantBits g + w → length text ≤ 32768 → RefusedAfter before 4 r
-  pub signal-again : (before name field after : Bytes) (w : ℕ) (g : Graph) → SymbolNext text before (code "S") name field after w g → g .constants ≡ [] → signalBits g + w ≤ 63 → (New g name → ⊥) → length text ≤ 32768 → RefusedAfter before 5 r
-  pub constant-again : (before name field after : Bytes) (w : ℕ) (g : Graph) → SymbolNext text before (code "K") name field after w g → constantBits g + w ≤ 6 → (New g name → ⊥) → length text ≤ 32768 → RefusedAfter before 5 r
+  pub signal-bits : (before name field after : Bytes) (w : ℕ) (g : Graph) → SymbolNext text before (code "S") name field after w g → g .constants ≡ [] → 63 < signalBits g + w → length text ≤ 32768 → RefusedHere before 4 r
+  pub constant-bits : (before name field after : Bytes) (w : ℕ) (g : Graph) → SymbolNext text before (code "K") name field after w g → 6 < constantBits g + w → length text ≤ 32768 → RefusedHere before 4 r
+  pub signal-again : (before name field after : Bytes) (w : ℕ) (g : Graph) → SymbolNext text before (code "S") name field after w g → g .constants ≡ [] → signalBits g + w ≤ 63 → (New g name → ⊥) → length text ≤ 32768 → RefusedHere before 5 r
+  pub constant-again : (before name field after : Bytes) (w : ℕ) (g : Graph) → SymbolNext text before (code "K") name field after w g → constantBits g + w ≤ 6 → (New g name → ⊥) → length text ≤ 32768 → RefusedHere before 5 r
   -- any other is taken, with its width
   pub signal-taken : (before name field : Bytes) (w : ℕ) (g : Graph) → SymbolNext text before (code "S") name field vertexLine w g → g .constants ≡ [] → signalBits g + w ≤ 63 → New g name → length text ≤ 32768 → graphOf text ≡ accepted (record { mode = g .mode; signals = g .signals ++ (record { name = name; width = w } ∷ []); constants = g .constants; vertices = g .vertices; edges = g .edges })
   pub constant-taken : (before name field : Bytes) (w : ℕ) (g : Graph) → SymbolNext text before (code "K") name field vertexLine w g → constantBits g + w ≤ 6 → New g name → length text ≤ 32768 → graphOf text ≡ accepted (record { mode = g .mode; signals = g .signals; constants = g .constants ++ (record { name = name; width = w } ∷ []); vertices = g .vertices; edges = g .edges })
+  -- a text may begin with a vertex, and after a graph without edges a new vertex is taken
+  pub vertex-first : graphOf vertexLine ≡ accepted (record { mode = Unsaid; signals = []; constants = []; vertices = (code "v" ∷ []) ∷ []; edges = [] })
+  pub vertex-taken : (before name : Bytes) (g : Graph) → StartsLine before → isName name ≡ true → graphOf before ≡ accepted g → g .edges ≡ [] → length (g .vertices) < 64 → (List·Memᴰ name (g .vertices) → ⊥) → text ≡ before ++ (code "V" ∷ code "\t" ∷ (name ++ (code "\n" ∷ []))) → length text ≤ 32768 → graphOf text ≡ accepted (record { mode = g .mode; signals = g .signals; constants = g .constants; vertices = g .vertices ++ (name ∷ []); edges = g .edges })

@@ -19,9 +19,10 @@ const NAMES: usize = 4096;
 
 const PLACE: usize = 16;
 
-// From here on a word is one bit of a name, and from there on two names compared.
+// From here on a word is one bit of a name.
 const BITS: usize = 8192;
 
+// From here on a word is two names compared.
 const ALIKE: usize = 16777216;
 
 // The name of a word, looked up.

@@ -6,6 +6,7 @@ ghost use Prim.Native.Nat.{_≤_};
 ghost use lib.ListN.{length, take};
 ghost use Rattle.graph.specs.Pieces.{pieceAt, placeOf, lookUp, lookUpName};
 ghost use Rattle.graph.specs.Held.{declaredIn};
+ghost use Rattle.graph.specs.Claims.{LookUpMeans};
 ghost use Rattle.graph.specs.Private.Steps.{pointed};
 use crate::Found;
 use crate::FoundName;
@@ -22,9 +23,9 @@ pub(crate) const LENGTH: usize = 4096;
 
 const LENGTHS: usize = 16;
 
-pub(crate) const PLACE: usize = 32;
+pub(crate) const FIRST: usize = 32;
 
-const PLACES: usize = 128;
+const FIRSTS: usize = 128;
 
 // The place of a vertex among the first `count`, or `count`.
 fn place(text: &[u8], starts: &[usize], count: usize, name: &[u8]) -> usize
@@ -61,6 +62,7 @@ pub(crate) fn look_up(text: &[u8], starts: &[usize], count: usize, name: &[u8]) 
 // Looks a signal or a constant up among the first `count`, or among all where there are fewer.
 pub fn look_up_name(text: &[u8], symbols: &[usize], count: usize, name: &[u8]) -> FoundName
     ensures { λ r. ⌜ r ≡ lookUpName (now (name .entry)) (map (declaredIn (now (text .entry))) (take count (now (symbols .entry)))) ⌝ }
+    ensures found { λ r. ⌜ LookUpMeans (now (name .entry)) (map (declaredIn (now (text .entry))) (take count (now (symbols .entry)))) r ⌝ }
 {
     let mut k = 0;
     while k < count && k < symbols.len() {
@@ -68,8 +70,8 @@ pub fn look_up_name(text: &[u8], symbols: &[usize], count: usize, name: &[u8]) -
         if same_bytes(name, part(text, y / START, y / LENGTH % LENGTHS)) {
             return FoundName {
                 known: true,
-                place: y / PLACE % PLACES,
-                width: y % PLACE,
+                place: y / FIRST % FIRSTS,
+                width: y % FIRST,
             };
         }
         k += 1;

@@ -10,15 +10,15 @@ use crate::CheckedGraph;
 use crate::Fault;
 use crate::Judged;
 use crate::faulty;
+use crate::names::FIRST;
 use crate::names::LENGTH;
-use crate::names::PLACE;
 use crate::names::START;
 use crate::names::look_up;
 use crate::names::look_up_name;
 use crate::pieces::part;
 use crate::pieces::piece;
 
-// So many bits.
+// The most bits of all signals, and of all constants.
 const MOST_SIGNALS: usize = 63;
 
 const MOST_CONSTANTS: usize = 6;
@@ -30,7 +30,7 @@ fn symbol_word(start: usize, length: usize, place: usize, width: usize) -> usize
     requires { ⌜ (start ≤ 32768) × (length ≤ 15) × (place ≤ 69) × (width ≤ 16) ⌝ }
     ensures { λ r. ⌜ r ≡ symbolWord start length place width ⌝ }
 {
-    start * START + length * LENGTH + place * PLACE + width
+    start * START + length * LENGTH + place * FIRST + width
 }
 
 // The graph with one signal more.

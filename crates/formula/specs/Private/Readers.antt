@@ -11,7 +11,7 @@ use Rattle.formula.specs.Grammar.{Got, failed, got, isIndex, depthOf}
 use Rattle.formula.specs.Reading.{byteWord, postfix}
 use Rattle.formula.specs.declared.names.Index.{Index}
 use Rattle.formula.specs.declared.names.Word.{Word}
-use Rattle.formula.specs.declared.names.Word.the-variants.{Wrong, Known}
+use Rattle.formula.specs.declared.names.Word.the-variants.{Wrong, Formed}
 use Rattle.formula.specs.declared.readers.Read.{Read}
 use Rattle.formula.specs.declared.readers.Read.the-variants.{Failed, Done}
 
@@ -78,7 +78,7 @@ putOf out (Done next count depth) b = set out count (byteWord b)
 -- a name and what belongs to it are one word
 abbrev pub wordRead : Got → Word
 wordRead failed = Wrong
-wordRead (got e to) = Known to (getD (postfix e) 0 0)
+wordRead (got e to) = Formed to (getD (postfix e) 0 0)
 
 -- the digits from `at` on: their number, cut at 16, how many there are, and whether they are an index
 abbrev pub indexAt : List ℕ → ℕ → Index

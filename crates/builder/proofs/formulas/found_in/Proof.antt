@@ -10,7 +10,7 @@ look-up-name-requires : tie.Need-look-up-name-requires
 look-up-name-requires c κs = search needs
 
 returns : tie.Need-returns
-returns c = rw (← c .before .part .ensures) (c .look-up-name .ensures)
+returns c = rw (← c .before .part .ensures) (c .look-up-name .ensures .0)
 
 pub found-in-spec : {M : Type 1} → statement M
 found-in-spec = tie.close (tie.spec part-requires look-up-name-requires returns)

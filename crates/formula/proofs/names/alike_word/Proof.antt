@@ -6,7 +6,7 @@ use Prim.Native.Nat.{ℕ, _+_, _*_, _-_, _≤_, _<_}
 use native.Mathlib.Omega.{arith}
 use borrow.Author.Tests.{le-leb, lt-leb}
 use lib.ListN.{getD, drop}
-use Rattle.formula.specs.declared.names.Word.the-variants.{Wrong, Known}
+use Rattle.formula.specs.declared.names.Word.the-variants.{Wrong, Formed}
 use Rattle.formula.specs.Classes.{classOf, isLetter, run}
 use Rattle.formula.specs.Grammar.{rightOf}
 use Rattle.formula.specs.Reading.{nameWord, alikeWord, postfix}
@@ -17,7 +17,7 @@ use Rattle.formula.proofs.names.alike_word.Tie as tie
 
 module _ (s : List ℕ) (p n at end : ℕ) (ends : end ≡ at + run (drop at s)) where
   known : isLetter (classOf (getD s at 0)) ≡ true → end - at ≤ 15 →
-      (name : ℕ) → name ≡ nameWord p n → Known end (16777216 + 4096 * name + (at * 16 + (end - at))) ≡ wordRead (rightOf s p n at (run (drop at s)))
+      (name : ℕ) → name ≡ nameWord p n → Formed end (16777216 + 4096 * name + (at * 16 + (end - at))) ≡ wordRead (rightOf s p n at (run (drop at s)))
   unfolding rightOf postfix alikeWord nameWord
   known letter short name h =
       let len : run (drop at s) ≡ end - at = omega (arith, ends) in

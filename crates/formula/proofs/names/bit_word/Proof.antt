@@ -9,7 +9,7 @@ use borrow.Author.Tests.{ne-eqb}
 use lib.ListN.{length, getD, drop}
 use Rattle.text.specs.Numbers.{leadingDigits, valueFrom}
 use Rattle.formula.specs.declared.names.Index.{Index}
-use Rattle.formula.specs.declared.names.Word.the-variants.{Wrong, Known}
+use Rattle.formula.specs.declared.names.Word.the-variants.{Wrong, Formed}
 use Rattle.formula.specs.Grammar.{isIndex, indexOf}
 use Rattle.formula.specs.Reading.{nameWord, bitWord, postfix}
 use Rattle.formula.specs.Private.Readers.{wordRead, indexAt}
@@ -32,7 +32,7 @@ module _ (s : List ℕ) (at : ℕ) (i : Index) (is : i ≡ indexAt s at) where
 
   module _ (p n : ℕ) where
     known : {b name : ℕ} → i .formed ≡ true → b ≡ getD s (i .next) 0 → b ≡ 93 → name ≡ nameWord p n →
-        Known (i .next + 1) (8192 * (i .value + 1) + name) ≡ wordRead (indexOf s p n at (leadingDigits (drop at s)))
+        Formed (i .next + 1) (8192 * (i .value + 1) + name) ≡ wordRead (indexOf s p n at (leadingDigits (drop at s)))
     unfolding indexOf postfix bitWord
     known f e c h = rw (next, value, h, sym formed ∙ f, sym (ap (λ (x : ℕ). getD s x 0) next) ∙ sym e ∙ c)
 

@@ -9,7 +9,7 @@ use lib.ListN.{length, getD, drop}
 use Rattle.text.specs.Numbers.{leadingDigits}
 use Rattle.formula.specs.declared.Start.the-variants.{Name}
 use Rattle.formula.specs.declared.names.Word.{Word}
-use Rattle.formula.specs.declared.names.Word.the-variants.{Wrong, Known}
+use Rattle.formula.specs.declared.names.Word.the-variants.{Wrong, Formed}
 use Rattle.formula.specs.Classes.{startOf, run}
 use Rattle.formula.specs.Grammar.{indexOf, rightOf, nameOf}
 use Rattle.formula.specs.Reading.{nameWord, postfix}
@@ -53,7 +53,7 @@ module _ (s : List ℕ) (at end : ℕ) (ends : end ≡ at + run (drop at s)) whe
       unfolding nameOf
       two r e e2 h = rw (le-leb (run (drop at s)) 15 len, here ∙ e, next ∙ e2) (rw ends at h)
 
-    bare : (b ≡ 91 → ⊥) → (b ≡ 61 → getD s (end + 1) 0 ≡ 61 → ⊥) → Known end (at * 16 + (end - at)) ≡ wordRead (nameOf s at (run (drop at s)))
+    bare : (b ≡ 91 → ⊥) → (b ≡ 61 → getD s (end + 1) 0 ≡ 61 → ⊥) → Formed end (at * 16 + (end - at)) ≡ wordRead (nameOf s at (run (drop at s)))
     unfolding nameOf postfix
     bare n91 n61 =
         let next : getD s (at + run (drop at s) + 1) 0 ≡ getD s (end + 1) 0 = sym (ap (λ (x : ℕ). getD s (x + 1) 0) ends) in

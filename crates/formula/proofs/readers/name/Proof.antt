@@ -11,7 +11,7 @@ use lib.Seq.{sets}
 use Rattle.text.specs.Numbers.{leadingDigits, valueFrom}
 use Rattle.formula.specs.declared.Start.the-variants.{Name}
 use Rattle.formula.specs.declared.names.Word.{Word}
-use Rattle.formula.specs.declared.names.Word.the-variants.{Wrong, Known}
+use Rattle.formula.specs.declared.names.Word.the-variants.{Wrong, Formed}
 use Rattle.formula.specs.declared.readers.Read.the-variants.{Failed, Done}
 use Rattle.formula.specs.Classes.{pick, classOf, isLetter, startOf, run}
 use Rattle.formula.specs.Grammar.{Tree, name, bitOf, alike, Got, failed, got, isIndex, indexOf, rightOf, nameOf, depthOf}
@@ -63,7 +63,7 @@ module _ (s out : List ℕ) (at n : ℕ) (letter : startOf (getD s at 0) ≡ Nam
       go failed x = refl
       go (got e to) x = let z : _≡_ {A = ℕ} 0 1 = cc (h, x) in absurd (omega arith)
 
-  known : (next word : ℕ) → found ≡ Known next word →
+  known : (next word : ℕ) → found ≡ Formed next word →
       (Bounds (length s) at n (Done next (n + 1) 0)) × (Reads out n (set out n word) (Done next (n + 1) 0) (nameOf s at (run (drop at s))))
   unfolding Reads
   known next word h = go (nameOf s at (run (drop at s))) refl is

@@ -7,6 +7,7 @@ use borrow.Author.Needs.{needs}
 use borrow.Author.Tests.{ltb-true, ltb-false}
 use Rattle.graph.specs.Pieces.{lookUpName}
 use Rattle.graph.specs.Private.Steps.{held}
+use Rattle.graph.proofs.LookUpLaws.{look-up-means}
 use Rattle.graph.proofs.NameLaws.{name-found, name-later, name-none}
 use Rattle.graph.proofs.names.look_up_name.Statement.{statement}
 use Rattle.graph.proofs.names.look_up_name.Tie as tie
@@ -37,7 +38,8 @@ returns c =
     let i = c .before .before .before .before in
     let l = i .before .before in
     let a = l .before .before .before .before .args in
-    name-found (a .text .now) (a .name .now) (a .symbols .now) (a .count) (l .loop .k) (i .before .loop-test .taken) (ltb-true (l .loop .k) (length (a .symbols .now)) (i .if1 .taken)) (c .before .before .part .ensures) (c .before .same-bytes .ensures) (c .if2 .taken) ∙ l .loop .inv
+    let e = name-found (a .text .now) (a .name .now) (a .symbols .now) (a .count) (l .loop .k) (i .before .loop-test .taken) (ltb-true (l .loop .k) (length (a .symbols .now)) (i .if1 .taken)) (c .before .before .part .ensures) (c .before .same-bytes .ensures) (c .if2 .taken) ∙ l .loop .inv in
+    (e, look-up-means _ _ e)
 
 add-k : tie.Need-add-k Inv-loop μ-loop
 add-k c = search needs
@@ -56,13 +58,15 @@ returns-2 : tie.Need-returns-2 Inv-loop μ-loop
 returns-2 c =
     let l = c .before .before in
     let a = l .before .before .before .before .args in
-    name-none (a .text .now) (a .name .now) (a .symbols .now) (a .count) (l .loop .k) (omega (arith, length-take (a .count) (a .symbols .now), ltb-false (l .loop .k) (length (a .symbols .now)) (c .if1 .left))) ∙ l .loop .inv
+    let e = name-none (a .text .now) (a .name .now) (a .symbols .now) (a .count) (l .loop .k) (omega (arith, length-take (a .count) (a .symbols .now), ltb-false (l .loop .k) (length (a .symbols .now)) (c .if1 .left))) ∙ l .loop .inv in
+    (e, look-up-means _ _ e)
 
 returns-3 : tie.Need-returns-3 Inv-loop μ-loop
 returns-3 c =
     let l = c .before in
     let a = l .before .before .before .before .args in
-    name-none (a .text .now) (a .name .now) (a .symbols .now) (a .count) (l .loop .k) (omega (arith, length-take (a .count) (a .symbols .now), c .loop-test .left)) ∙ l .loop .inv
+    let e = name-none (a .text .now) (a .name .now) (a .symbols .now) (a .count) (l .loop .k) (omega (arith, length-take (a .count) (a .symbols .now), c .loop-test .left)) ∙ l .loop .inv in
+    (e, look-up-means _ _ e)
 
 pub look-up-name-spec : {M : Type 1} → statement M
 look-up-name-spec =

@@ -43,7 +43,7 @@ returns-3 : tie.Need-returns-3
 returns-3 c =
     let j = c .before .before .before .before .before .before .before in
     let s = j .before .before .before in
-    λ graph h q i. rw (c .faulty3 .ensures) (signal-again (s .args .text .now) (s .args .t2) graph h _ _ (j .before .if1 .left) (j .if2 .left) (c .before .before .before .part .ensures) (c .before .before .look-up-name .ensures) (c .before .if3 .taken))
+    λ graph h q i. rw (c .faulty3 .ensures) (signal-again (s .args .text .now) (s .args .t2) graph h _ _ (j .before .if1 .left) (j .if2 .left) (c .before .before .before .part .ensures) (c .before .before .look-up-name .ensures .0) (c .before .if3 .taken))
 
 with-signal-requires : tie.Need-with-signal-requires
 with-signal-requires c κs =
@@ -57,7 +57,7 @@ returns-4 c =
     let s = j .before .before .before in
     λ graph h q i.
     rw (c .with-signal .ensures)
-    (signal-new (s .args .text .now) (s .args .t2) graph h _ _ (j .before .if1 .left) (j .if2 .left) (c .before .before .before .part .ensures) (c .before .before .look-up-name .ensures) (omega (arith, s .pre .0 .named-few, s .pre .0 .signals-few, s .pre .0 .constants-few, s .pre .1 .some, j .if2 .left)) _ _ q i (c .before .if3 .left))
+    (signal-new (s .args .text .now) (s .args .t2) graph h _ _ (j .before .if1 .left) (j .if2 .left) (c .before .before .before .part .ensures) (c .before .before .look-up-name .ensures .0) (omega (arith, s .pre .0 .named-few, s .pre .0 .signals-few, s .pre .0 .constants-few, s .pre .1 .some, j .if2 .left)) _ _ q i (c .before .if3 .left))
 
 pub add-signal-spec : {M : Type 1} → statement M
 add-signal-spec =

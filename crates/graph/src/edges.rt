@@ -60,11 +60,10 @@ fn judge_edge(text: &[u8], g: CheckedGraph, e: Arc) -> Added
 }
 
 // The vertex whose name is the field at a place of the line.
-fn vertex_at(text: &[u8], g: CheckedGraph, line: &[u8], at: usize) -> Found
-    ensures { λ r. ⌜ r ≡ lookUp (pieceAt 9 (now (line .entry)) at) (pointed (now (text .entry)) (g .points) (g .vertices)) ⌝ }
+fn vertex_at(text: &[u8], points: &[usize], count: usize, line: &[u8], at: usize) -> Found
+    ensures { λ r. ⌜ r ≡ lookUp (pieceAt 9 (now (line .entry)) at) (pointed (now (text .entry)) (now (points .entry)) count) ⌝ }
 {
-    let count = g.vertices;
-    look_up(text, &g.points, count, piece(line, at, b'\t'))
+    look_up(text, points, count, piece(line, at, b'\t'))
 }
 
 // An edge by the places of its formulas in the text.
@@ -111,11 +110,12 @@ pub(crate) fn add_edge(
     if MOST_EDGES <= g.edges {
         return faulty(g, Fault::TooMany);
     }
-    let f = vertex_at(text, g, line, from);
+    let count = g.vertices;
+    let f = vertex_at(text, &g.points, count, line, from);
     if !f.known {
         return faulty(g, Fault::UnknownVertex);
     }
-    let t = vertex_at(text, g, line, to);
+    let t = vertex_at(text, &g.points, count, line, to);
     if !t.known {
         return faulty(g, Fault::UnknownVertex);
     }

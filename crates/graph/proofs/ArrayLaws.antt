@@ -15,7 +15,7 @@ use Rattle.assertion.specs.declared.Mode.{Mode}
 use Rattle.graph.specs.Pieces.{Declared, lookUp, lookUpName}
 use Rattle.graph.specs.Reading.{modeLines, addMode, namesOf, judgedFormula, lower, sizedName, addSignal, addConstant, addVertex, edgeOf, unlessFaulty, judgeEdge, addEdge}
 use Rattle.graph.specs.Held.{lineOf, fieldAt, fieldLength, symbolWord, symbolsOf, namePlaces, arcOf, arcsOf, noArc, filled, heldAs}
-use Rattle.graph.specs.Private.Steps.{points, held, EachNarrow, narrowIn, namedOf, recordsOf, writtenOf, Holds, ArcAt, faultyOf, addedOf, withMode, withSignal, withConstant, withVertex, withEdge}
+use Rattle.graph.specs.Private.Steps.{points, held, EachNarrow, namedOf, recordsOf, writtenOf, Holds, ArcAt, faultyOf, addedOf, withMode, withSignal, withConstant, withVertex, withEdge}
 use Rattle.graph.specs.declared.Fault.{Fault}
 use Rattle.graph.specs.declared.Fault.the-variants.{WrongOrder, TooMany, NameRepeated, UnknownVertex}
 use Rattle.graph.specs.declared.Judged.{Judged}
@@ -166,7 +166,7 @@ module _ (text : Bytes) (g : CheckedGraph) (graph : Graph) (h : Holds text g gra
   pub names-are : held text (take (g .named) (g .names)) ≡ namesOf graph
   names-are = rw (name-places, symbols-first text first 0 (graph .signals ++ graph .constants) (g .named) (both-named ∙ sym named-is)) (h .names)
 
-  pub narrow-is : narrowIn text g
+  pub narrow-is : EachNarrow (held text (take (g .named) (g .names)))
   narrow-is = subst EachNarrow (sym names-are) (placed-narrow 0 (graph .signals ++ graph .constants) (h .widths))
 
   points-are : points text (take (g .vertices) (g .points)) ≡ graph .vertices

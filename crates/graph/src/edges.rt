@@ -3,7 +3,7 @@ ghost use mathlib.Core.Path.{_≡_};
 ghost use Prim.Native.Nat.{_+_, _^_, _≤_, _<_};
 ghost use lib.ListN.{length};
 ghost use Rattle.graph.specs.Pieces.{pieceAt, lookUp};
-ghost use Rattle.graph.specs.Private.Steps.{pointed, Kept, narrowIn, judgedArc, arcFrom, AddsArc, AddsEdge, withEdge};
+ghost use Rattle.graph.specs.Private.Steps.{pointed, listed, EachNarrow, Kept, judgedArc, arcFrom, AddsArc, AddsEdge, withEdge};
 use crate::Added;
 use crate::Arc;
 use crate::CheckedGraph;
@@ -33,13 +33,11 @@ fn with_edge(g: CheckedGraph, e: Arc) -> CheckedGraph
 }
 
 // The lower fault of an edge's two formulas.
-fn judge_both(text: &[u8], g: CheckedGraph, e: Arc) -> Judged
-    requires { ⌜ Kept g ⌝ }
-    ensures { λ r. ⌜ (narrowIn (now (text .entry)) g → r ≡ judgedArc (now (text .entry)) g e) ⌝ }
+fn judge_both(text: &[u8], symbols: &[usize], total: usize, e: Arc) -> Judged
+    ensures { λ r. ⌜ (EachNarrow (listed (now (text .entry)) (now (symbols .entry)) total) → r ≡ judgedArc (now (text .entry)) (listed (now (text .entry)) (now (symbols .entry)) total) e) ⌝ }
 {
-    let total = g.named;
-    let a = judge(text, &g.names, total, part(text, e.left, e.lefts));
-    let c = judge(text, &g.names, total, part(text, e.right, e.rights));
+    let a = judge(text, symbols, total, part(text, e.left, e.lefts));
+    let c = judge(text, symbols, total, part(text, e.right, e.rights));
     lower_of(a, c)
 }
 
@@ -48,7 +46,8 @@ fn judge_edge(text: &[u8], g: CheckedGraph, e: Arc) -> Added
     requires { ⌜ Kept g × (g .edges < 128) ⌝ }
     ensures { λ r. ⌜ AddsArc (now (text .entry)) g e r ⌝ }
 {
-    let judged = judge_both(text, g, e);
+    let total = g.named;
+    let judged = judge_both(text, &g.names, total, e);
     if let Judged::Faulty(fault) = judged {
         return faulty(g, fault);
     }

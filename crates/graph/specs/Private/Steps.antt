@@ -146,14 +146,8 @@ leftOf text e = take (e .lefts) (drop (e .left) text)
 abbrev pub rightOf : Bytes → Arc → Bytes
 rightOf text e = take (e .rights) (drop (e .right) text)
 
--- no name of the graph has more than 16 bits
-abbrev pub narrowIn : Bytes → CheckedGraph → Type 0
-narrowIn text g = EachNarrow (listed text (g .names) (g .named))
-
-abbrev pub judgedArc : Bytes → CheckedGraph → Arc → Judged
-judgedArc text g e =
-    let names = listed text (g .names) (g .named) in
-    lower (judgedFormula names (leftOf text e)) (judgedFormula names (rightOf text e))
+abbrev pub judgedArc : Bytes → List Declared → Arc → Judged
+judgedArc text names e = lower (judgedFormula names (leftOf text e)) (judgedFormula names (rightOf text e))
 
 -- an edge by the places of its formulas in its line, which starts at `at`
 abbrev pub arcFrom : Bytes → ℕ → ℕ → ℕ → Bool → ℕ → ℕ → Arc

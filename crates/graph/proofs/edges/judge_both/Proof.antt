@@ -20,7 +20,7 @@ lower-of-requires c κs = search needs
 
 returns : tie.Need-returns
 returns c =
-    let j = c .before .before .before .before .before .before in
+    let j = c .before .before .before in
     λ narrow. rw (← j .before .part .ensures, ← c .before .before .part2 .ensures, ← j .judge .ensures narrow, ← c .before .judge2 .ensures narrow) (c .lower-of .ensures)
 
 pub judge-both-spec : {M : Type 1} → statement M

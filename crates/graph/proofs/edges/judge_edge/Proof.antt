@@ -16,8 +16,8 @@ faulty-requires c κs = search needs
 returns : tie.Need-returns
 returns c =
     let j = c .before .before .before .before in
-    let s = j .before .before in
-    λ graph h w. rw (c .faulty .ensures) (edge-fault (s .args .text .now) (s .args .g) graph h (s .args .e .from) (s .args .e .to) (s .args .e .terminal) _ _ (j .judge-both .ensures (narrow-is (s .args .text .now) (s .args .g) graph h)) (c .before .before .judged .given .1))
+    let s = j .before .before .before .before .before in
+    λ graph h w. rw (c .faulty .ensures) (edge-fault (s .args .text .now) (s .args .t2) graph h (s .args .e .from) (s .args .e .to) (s .args .e .terminal) _ _ (j .judge-both .ensures (narrow-is (s .args .text .now) (s .args .t2) graph h)) (c .before .before .judged .given .1))
 
 enum-told : tie.Need-enum-told
 enum-told c = search needs
@@ -28,8 +28,8 @@ with-edge-requires c κs = search needs
 returns-2 : tie.Need-returns-2
 returns-2 c =
     let j = c .before .before .before in
-    let s = j .before .before in
-    λ graph h w. rw (c .with-edge .ensures) (edge-new (s .args .text .now) (s .args .g) graph h (s .args .e) w (s .pre .1) _ _ (j .judge-both .ensures (narrow-is (s .args .text .now) (s .args .g) graph h)) (c .before .enum-told .given .1))
+    let s = j .before .before .before .before .before in
+    λ graph h w. rw (c .with-edge .ensures) (edge-new (s .args .text .now) (s .args .t2) graph h (s .args .e) w (s .pre .1) _ _ (j .judge-both .ensures (narrow-is (s .args .text .now) (s .args .t2) graph h)) (c .before .enum-told .given .1))
 
 pub judge-edge-spec : {M : Type 1} → statement M
 judge-edge-spec =

@@ -1,6 +1,6 @@
 -- What the contract of read_graph claims of the widths of signals and constants, by the bytes of the text: of an
 -- accepted text, each with its line, its place and its width; and which of their lines are taken, refused with 2 for
--- the width, with 4 for the bits and with 5 for the name. Assumes nothing.
+-- the width, with 4 for the bits and with 5 for the name; and that new vertices are taken. Assumes nothing.
 use Prim.Native.Nat.{ℕ, _+_, _≤_, _<_}
 use Prim.Native.Char.{code}
 use mathlib.Core.Path.{_≡_}

@@ -24,7 +24,7 @@ static const char graph[] = "S\tp\nS\tq\nV\ta\nV\tb\nE\ta\tb\tt\tp\tq\n";
 static const char trace[] = "110\n111\n010\n";
 
 /* buffers that are long enough for every netlist, and verdicts for this trace */
-static uint16_t made[8194], net[8194];
+static uint16_t made[8195], net[8195];
 static uint8_t file[65536], verdicts[3];
 static uint64_t latches[4094], values[4096];
 

@@ -1,6 +1,7 @@
 /* Ludopoplar: monitor circuits of assertion graphs. Builds the circuit of a graph text, writes and reads
-   circuits as AIGER files, runs them cycle by cycle, tells rejections in a million cycles, finds the line that
-   was rejected first in the two traces of a session, and lays the verdicts of a run out as a page for the wall.
+   circuits as AIGER files, runs them cycle by cycle, counts the cycles in which a rule was at stake, tells
+   rejections in a million cycles, finds the line that was rejected first in the two traces of a session, and
+   lays the verdicts of a run out as a page for the wall.
 
    Link with libludopoplar.a (x86-64 Linux). It needs memcpy and memset of the C library and nothing else.
 
@@ -12,7 +13,8 @@
      else that is lent to it; what is only read may be lent twice.
      The tally and what is lent to be read must be initialised; buffers that are only filled need not be.
      A call fills a buffer from its start; where the buffer is longer than needed, the rest stays as it was.
-     ludo_build takes up to 220 KB of stack, for deep formulas; the other calls take under 4 KB.
+     ludo_build and ludo_build_checked take up to 220 KB of stack, for deep formulas; the other calls take
+     under 4 KB.
 
    Return code
      0 where the call is accepted. Else the call is refused, and the code is number * 2^32 + line, which
@@ -38,7 +40,7 @@
        14     its    AIGER: line of right shape that breaks order or limits
        15     its    trace: wrong line, counted in its own trace; a step's cycle is line 1
        16     0      the numbers are no netlist
-       17     0      the tally would pass 4,294,967,295
+       17     0      a number of the tally would pass 4,294,967,295 if each new cycle were added to it
        19     its    graph: in a formula, names of unequal widths compared, a bit beyond the width, or a name of
                      several bits where one bit is due
        21     0      tally: no cycle, or more rejected than cycles
@@ -49,20 +51,29 @@
      Lines count from 1; the first faulty line decides, and in it the lower number, also where an edge's two
      formulas have one each. Build checks 1, the lines, 10, 11, 12; read 1, the lines, 12; write and start 16,
      12; step 16, 15, 12, 17; run 1, then as step; per million 21; broken check 1 of either trace, 26, 15 of the
-     flywheel trace, 15 of the handle trace, 25; session page 1, 22, 12.
+     flywheel trace, 15 of the handle trace, 25; session page 1, 22, 12. A call whose name ends in _checked
+     checks what the one without it checks, in the same order.
 
-   Netlist: uint16_t numbers, 5 + 2L + 1 + 2A of them, at most 8,194
+   Netlist: uint16_t numbers, 5 + 2L + O + 2A of them, at most 8,195
      M I L O A               highest variable, inputs, latches, outputs, AND gates
      next reset              L times; reset is 0, 1 or the latch's own literal (uninitialised)
-     output                  once
+     output                  O times: accept, then checked
      r0 r1                   A times, the operands of each gate
      Variable 0 is false; 1 to I are the inputs, then the latches, then the gates. Variable v has the literal
      2v, and 2v + 1 for its inverse. A gate's literal g has g > r0 >= r1; next and output are at most 2M + 1.
-     Limits: M = I + L + A <= 4,095; 1 <= I <= 64; O = 1; at most 6 uninitialised latches.
+     Limits: M = I + L + A <= 4,095; 1 <= I <= 64; O = 1 or 2; at most 6 uninitialised latches.
      Numbers that stand after a netlist in a lent buffer are not looked at.
 
    Words: a simulated variable is a uint64_t, with one bit, a lane, for each setting of the uninitialised
-   latches: the j-th of them, from 0, starts in lane n as bit j of n. */
+   latches: the j-th of them, from 0, starts in lane n as bit j of n.
+
+   One output or two
+     A session can pass because nothing was ever tested; the second output, checked, tells. Every call that takes
+     a netlist or a file takes one output or two. ludo_build makes one, ludo_build_checked two.
+     With two outputs a session is run by ludo_start_checked, ludo_step_checked and ludo_run_checked, which count
+     in a third number of the tally the cycles in which checked is 1 in some lane. ludo_start, ludo_step and
+     ludo_run are then for callers who read no third number: they do all else, and move and guard the first two.
+     They are not to be mixed with the new ones in one run: its third number would miss cycles. */
 
 #ifndef LUDOPOPLAR_H
 #define LUDOPOPLAR_H
@@ -95,6 +106,12 @@ extern "C" {
    each signal's bit 0 first; each bit of a constant is an uninitialised latch. */
 uint64_t ludo_build(const uint8_t *graph, size_t graph_len, uint16_t *net, size_t net_len, uint64_t *gates);
 
+/* As ludo_build, with a second output, checked: 1 in a lane where some path from the latest init to a terminal
+   edge met all antecedents, whether it met its consequents or not. Before any init it is 0. With T terminal
+   edges there are 2T - 1 gates more than without it; with no terminal edge there is none more, and checked is 0.
+   11 and 12 are for the netlist with them. Gates, latches and accept are otherwise those of ludo_build. */
+uint64_t ludo_build_checked(const uint8_t *graph, size_t graph_len, uint16_t *net, size_t net_len, uint64_t *gates);
+
 /* Writes the AIGER ASCII file of a netlist into `text`; `*length` is its number of bytes, at most 65,536. */
 uint64_t ludo_write(const uint16_t *net, size_t net_len, uint8_t *text, size_t text_len, uint64_t *length);
 
@@ -107,7 +124,7 @@ uint64_t ludo_start(const uint16_t *net, size_t net_len, uint64_t *latches, size
 
 /* Runs one cycle. `cycle` is exactly I bytes, '0' or '1', one for each input. Moves the L words of `latches`,
    fills the first M + 1 words of `values` with the words of the variables, adds the cycle to the tally, and
-   puts the output word into `*word`. The cycle is rejected if a bit of that word is 0. */
+   puts the word of the first output into `*word`. The cycle is rejected if a bit of that word is 0. */
 uint64_t ludo_step(const uint16_t *net, size_t net_len, const uint8_t *cycle, size_t cycle_len, uint64_t *latches, size_t latches_len,
                    uint64_t *values, size_t values_len, uint32_t *cycles, uint32_t *rejected, uint64_t *word);
 
@@ -118,6 +135,25 @@ uint64_t ludo_step(const uint16_t *net, size_t net_len, const uint8_t *cycle, si
    accepted. */
 uint64_t ludo_run(const uint16_t *net, size_t net_len, const uint8_t *trace, size_t trace_len, uint64_t *latches, size_t latches_len,
                   uint64_t *values, size_t values_len, uint8_t *verdicts, size_t verdicts_len, uint32_t *cycles, uint32_t *rejected, uint64_t *verdict);
+
+/* As ludo_start, ludo_step and ludo_run, with a third number of the tally, `*checked`: the cycles in which the
+   second output was 1 in some lane. Of a netlist that ludo_build_checked made these are the cycles in which a
+   rule was at stake: those in which some setting of the constants and some path from the latest init to a
+   terminal edge met all antecedents. A session in which `*checked` is 0 tested nothing, though no cycle of it
+   was rejected. With one output `*checked` does not move.
+
+   ludo_start_checked sets all three numbers to 0. ludo_step_checked puts the word of the second output into
+   `*checked_word`, 0 where there is one output. Verdicts and `*verdict` are by the first output alone. 17 is for
+   any of the three numbers, also for one that would not move, and with one output too; a run of an empty trace
+   is never refused for it. */
+uint64_t ludo_start_checked(const uint16_t *net, size_t net_len, uint64_t *latches, size_t latches_len,
+                            uint32_t *cycles, uint32_t *rejected, uint32_t *checked);
+uint64_t ludo_step_checked(const uint16_t *net, size_t net_len, const uint8_t *cycle, size_t cycle_len, uint64_t *latches, size_t latches_len,
+                           uint64_t *values, size_t values_len, uint32_t *cycles, uint32_t *rejected, uint32_t *checked,
+                           uint64_t *word, uint64_t *checked_word);
+uint64_t ludo_run_checked(const uint16_t *net, size_t net_len, const uint8_t *trace, size_t trace_len, uint64_t *latches, size_t latches_len,
+                          uint64_t *values, size_t values_len, uint8_t *verdicts, size_t verdicts_len,
+                          uint32_t *cycles, uint32_t *rejected, uint32_t *checked, uint64_t *verdict);
 
 /* Rejections in a million cycles, from a tally: `*whole` is the whole part and `*remainder` the remainder of
    rejected * 1,000,000 / cycles. So rejected * 1,000,000 = *whole * cycles + *remainder, with *remainder below

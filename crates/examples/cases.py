@@ -110,7 +110,7 @@ graph("4,095 variables by ==", sixteen("&1"), "4060 gates")
 graph("4,096 variables by ==", sixteen("&1&1"), "refused 11 0")
 graph("a wide name", lines("S a 2", "V v", "E v v t a 1"), "refused 19 3")
 
-# ---- the examples of "The AIGER And-Inverter Graph Format". Within the subset: one output, inputs, M = I + L + A,
+# ---- the examples of "The AIGER And-Inverter Graph Format". Within the subset: one output or two, inputs, M = I + L + A,
 # variables in order, larger operand first, nothing after the last gate.
 refused("empty circuit: no input, no output", "aag 0 0 0 0 0", 14, 1)
 refused("constant false: no input", "aag 0 0 0 1 0, 0", 14, 1)
@@ -119,9 +119,9 @@ runs("buffer", "aag 1 1 0 1 0, 2, 2", "0, 1", "10")
 runs("inverter", "aag 1 1 0 1 0, 2, 3", "0, 1", "01")
 refused("and gate: smaller operand first", "aag 3 2 0 1 1, 2, 4, 6, 6 2 4", 14, 5)
 refused("or gate: smaller operand first", "aag 3 2 0 1 1, 2, 4, 7, 6 3 5", 14, 5)
-refused("half adder: two outputs", "aag 7 2 0 2 3, 2, 4, 6, 12, 6 13 15, 12 2 4, 14 3 5, i0 x, i1 y, o0 s, o1 c, c, half adder", 14, 1)
-refused("toggle: no input, two outputs", "aag 1 0 1 2 0, 2 3, 2, 3", 14, 1)
-refused("toggle with enable and reset: two outputs", "aag 7 2 1 2 4, 2, 4, 6 8, 6, 7, 8 4 10, 10 13 15, 12 2 6, 14 3 7", 14, 1)
+refused("half adder: variables left out", "aag 7 2 0 2 3, 2, 4, 6, 12, 6 13 15, 12 2 4, 14 3 5, i0 x, i1 y, o0 s, o1 c, c, half adder", 14, 1)
+refused("toggle: no input", "aag 1 0 1 2 0, 2 3, 2, 3", 14, 1)
+refused("toggle with enable and reset: operands defined later", "aag 7 2 1 2 4, 2, 4, 6 8, 6, 7, 8 4 10, 10 13 15, 12 2 6, 14 3 7", 14, 7)
 
 # ---- the same circuits brought into the subset: variables and operands in order, the first output only
 both = "00, 01, 10, 11"

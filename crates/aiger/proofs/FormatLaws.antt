@@ -12,14 +12,9 @@ use Rattle.text.proofs.WriterLaws.{joined-same}
 use Rattle.netlist.specs.Layout.{maximum, inputCount, latchCount, outputCount, gateCount, nextAt, resetAt, outputAt, operandsAt, sizeOf}
 use Rattle.netlist.specs.Lanes.{each}
 use Rattle.netlist.specs.Valid.{headerOk, isWithin, isFree, latchOk, freeCount, outputOk, gateOk, isNetlist}
+use Rattle.netlist.proofs.EachLaws.{each-same}
 use Rattle.netlist.proofs.ValidLaws.{valid}
 use Rattle.aiger.specs.Format.{latchLine, outputLine, gateLine, fileWith}
-
--- what is the same at each number below a count is tested alike
-each-same : (f g : ℕ → Bool) (n : ℕ) → ((k : ℕ) → k < n → f k ≡ g k) → each n f ≡ each n g
-unfolding each
-each-same f g zero h = refl
-each-same f g (suc n) h = ap₂ _&&_ (h zero (omega arith)) (each-same (λ k. f (suc k)) (λ k. g (suc k)) n (λ k l. h (suc k) (omega arith)))
 
 -- ---- two lists with the same numbers, as far as the header of the second counts
 
@@ -105,16 +100,16 @@ module _ (a b : List ℕ) (same : (i : ℕ) → i < sizeOf b → getD a i 0 ≡ 
   header-same = rw (maximum-same, inputs-same, latches-same, outputs-same, gates-same)
 
   each-output : each (outputCount a) (outputOk a) ≡ each (outputCount b) (outputOk b)
-  each-output = rw outputs-same (each-same (outputOk a) (outputOk b) (outputCount b) output-same)
+  each-output = rw outputs-same (each-same (outputCount b) (outputOk a) (outputOk b) output-same)
 
   each-latch : each (latchCount a) (latchOk a) ≡ each (latchCount b) (latchOk b)
-  each-latch = rw latches-same (each-same (latchOk a) (latchOk b) (latchCount b) latch-same)
+  each-latch = rw latches-same (each-same (latchCount b) (latchOk a) (latchOk b) latch-same)
 
   few-same : leb (freeCount a (latchCount a)) 6 ≡ leb (freeCount b (latchCount b)) 6
   few-same = rw (latches-same, count-same (latchCount b) (omega arith))
 
   each-gate : each (gateCount a) (gateOk a) ≡ each (gateCount b) (gateOk b)
-  each-gate = rw gates-same (each-same (gateOk a) (gateOk b) (gateCount b) gate-same)
+  each-gate = rw gates-same (each-same (gateCount b) (gateOk a) (gateOk b) gate-same)
 
   pub netlist-same : isNetlist b ≡ true → sizeOf b ≤ length a → isNetlist a ≡ true
   unfolding isNetlist

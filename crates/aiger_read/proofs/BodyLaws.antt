@@ -7,6 +7,7 @@ use borrow.Author.Tests.{eqb-true, eq-eqb}
 use lib.Dec.{eqb}
 use lib.ListN.{length}
 use Rattle.netlist.specs.Literals.{literalOf}
+use Rattle.aiger_read.specs.declared.Fault.{Fault}
 use Rattle.aiger_read.specs.declared.Fault.the-variants.{WrongShape}
 use Rattle.aiger_read.specs.Lines.{Row, inputAt, latchAt, outputAt, gateAt}
 use Rattle.aiger_read.specs.Files.{rows, failed, behind, andThen, rowsOf, endOf, bodyOf}
@@ -99,3 +100,12 @@ pub body-made : (s : List ℕ) (m i l o a : ℕ) (n1 n2 n3 n4 : List ℕ) (p f1 
 unfolding bodyOf andThen behind endOf
 body-made s m i l o a n1 n2 n3 n4 p f1 p1 f2 p2 f3 p3 f4 p4 e1 e2 e3 e4 h =
     rw (e1, e2, e3, e4, eq-eqb p4 (length s) h, append-nil n4)
+
+-- or up to a fault among the outputs
+pub body-fault : (s : List ℕ) (m i l o a : ℕ) (n1 n2 : List ℕ) (p0 f1 q1 f2 q2 : ℕ) (e : Fault) (line : ℕ)
+    → rowsOf (inputRows s) i 0 2 0 p0 ≡ rows n1 f1 q1
+    → rowsOf (latchRows s m i) l 0 (i + 2) f1 q1 ≡ rows n2 f2 q2
+    → rowsOf (outputRows s m) o 0 (i + l + 2) f2 q2 ≡ failed e line
+    → bodyOf s m i l o a p0 ≡ failed e line
+unfolding bodyOf andThen behind
+body-fault s m i l o a n1 n2 p0 f1 q1 f2 q2 e line e1 e2 e3 = rw (e1, e2, e3)

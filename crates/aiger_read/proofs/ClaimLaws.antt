@@ -1,27 +1,34 @@
--- THE CLAIM: read takes exactly the files, and reading what was written gives the same numbers. Assumes nothing.
+-- THE CLAIM: read takes exactly the files, reading what was written gives the same numbers, and a header out of
+-- limits and a faulty output are told at their own lines. Assumes nothing.
 use mathlib.Core.Path.{_≡_, refl, sym, ap, _∙_}
 use mathlib.Core.Bool.{Bool, true, false, cond, not}
 use mathlib.Core.List.{List, _++_}
-use Prim.Native.Nat.{ℕ, _<_, _≤_}
+use Prim.Native.Nat.{ℕ, _+_, _<_, _≤_}
 use native.Mathlib.Omega.{arith}
 use borrow.Author.Tests.{le-leb, lt-leb}
 use lib.Dec.{leb}
 use lib.ListN.{length, take, drop}
-use Rattle.netlist.specs.Layout.{sizeOf}
-use Rattle.netlist.specs.Valid.{isNetlist}
+use Rattle.netlist.specs.Layout.{maximum, outputCount, sizeOf}
+use Rattle.netlist.specs.Literals.{literalOf}
+use Rattle.netlist.specs.Valid.{headerOk, isNetlist}
+use Rattle.aiger.specs.Rows.{headerRow, literalRow}
 use Rattle.aiger.specs.Format.{fileWith, fileOf}
 use Rattle.aiger.proofs.FormatLaws.{trimmed-size, trimmed-file, trimmed-length, trimmed-netlist}
 use Rattle.aiger.proofs.LengthLaws.{file-length}
 use Rattle.aiger_read.specs.declared.Fault.{Fault}
+use Rattle.aiger_read.specs.declared.Fault.the-variants.{WrongShape, OutOfLimits}
 use Rattle.aiger_read.specs.declared.Cause.{Cause}
 use Rattle.aiger_read.specs.declared.Cause.the-variants.{TextTooLong, ShortBuffer, FaultyLine}
 use Rattle.aiger_read.specs.declared.ReadOutcome.{ReadOutcome}
 use Rattle.aiger_read.specs.declared.ReadOutcome.the-variants.{Numbers, Refused}
 use Rattle.aiger_read.specs.Files.{Rows, rows, failed, fileRead}
 use Rattle.aiger_read.specs.Read.{ReadEnd, readEnd, maxText, readAs, readOf}
-use Rattle.aiger_read.specs.Claims.{IsFile, ReadMeans}
+use Rattle.aiger_read.specs.Claims.{IsFile, fileTo, lineOfOutput, StartsWithNumber, ReadMeans}
+use Rattle.aiger_read.proofs.PlaceLaws.{at-split, at-whole, at-rest}
+use Rattle.aiger_read.proofs.FieldLaws.{Small}
+use Rattle.aiger_read.proofs.TextLaws.{output-above, output-wrong}
 use Rattle.aiger_read.proofs.FileLaws.{sound}
-use Rattle.aiger_read.proofs.CompleteLaws.{complete}
+use Rattle.aiger_read.proofs.CompleteLaws.{head-fault, file-fault, complete}
 
 -- ---- a file is read as its netlist, and no limit is in its way
 
@@ -90,6 +97,38 @@ module _ (text buf : List ℕ) where
   unfolding readOf
   long h = rw (lt-leb (length text) maxText (omega (arith, h)))
 
+-- ---- a fault of the header, and of an output
+
+faulty : (buf text : List ℕ) (fault : Fault) (line : ℕ) → length text ≤ 65536 → fileRead text ≡ failed fault line → readOf text buf ≡ readEnd (Refused (FaultyLine fault line)) buf
+unfolding readOf readAs
+faulty buf text fault line small e = rw (le-leb (length text) maxText (omega (arith, small)), e)
+
+header : (buf : List ℕ) (m i l o a : ℕ) (more : List ℕ) → m < 100000 → i < 100000 → l < 100000 → o < 100000 → a < 100000 → headerOk m i l o a ≡ false → length (headerRow m i l o a ++ more) ≤ 65536
+    → readOf (headerRow m i l o a ++ more) buf ≡ readEnd (Refused (FaultyLine OutOfLimits 1)) buf
+unfolding Small
+header buf m i l o a more hm hi hl ho ha e small =
+    let h = headerRow m i l o a in
+    faulty buf (h ++ more) OutOfLimits 1 small
+    (head-fault (h ++ more) m i l o a (0 + length h) (at-split h more (at-whole (h ++ more) refl) .0) (hm, (hi, (hl, (ho, (ha, tt))))) e)
+
+module _ (net buf : List ℕ) (explicit : ℕ → Bool) (k : ℕ) where
+  above : (lit : ℕ) (more : List ℕ) → isNetlist net ≡ true → k < outputCount net → literalOf (maximum net) true < lit → lit < 100000 → length (fileTo net explicit k ++ (literalRow lit ++ more)) ≤ 65536
+      → readOf (fileTo net explicit k ++ (literalRow lit ++ more)) buf ≡ readEnd (Refused (FaultyLine OutOfLimits (lineOfOutput net k))) buf
+  above lit more h l over few small =
+      let s = fileTo net explicit k ++ (literalRow lit ++ more) in
+      faulty buf s OutOfLimits (lineOfOutput net k) small
+      (file-fault s net explicit h OutOfLimits k (literalRow lit ++ more) refl l
+      (λ f p a. output-above s f p (literalOf (maximum net) true) lit (p + length (literalRow lit)) over few (at-split (literalRow lit) more a .0)))
+
+  shape : (more : List ℕ) → isNetlist net ≡ true → k < outputCount net → (StartsWithNumber more → ⊥) → length (fileTo net explicit k ++ more) ≤ 65536
+      → readOf (fileTo net explicit k ++ more) buf ≡ readEnd (Refused (FaultyLine WrongShape (lineOfOutput net k))) buf
+  shape more h l none small =
+      let s = fileTo net explicit k ++ more in
+      faulty buf s WrongShape (lineOfOutput net k) small
+      (file-fault s net explicit h WrongShape k more refl l
+      (λ f p a. output-wrong s f p (literalOf (maximum net) true)
+      (λ v r few b. none (record { lit = v; more = drop r s; small = few; is = at-rest a ∙ b .text }))))
+
 -- ---- what was written
 
 trip : (net : List ℕ) → isNetlist net ≡ true → IsFile (fileOf net) (take (sizeOf net) net)
@@ -115,4 +154,4 @@ same net other h g e =
     cc
 
 pub read-means : ReadMeans
-read-means = record { takes = takes; short = short; only = only; long = long; other = other; back = back; same = same }
+read-means = record { takes = takes; short = short; only = only; long = long; other = other; back = back; same = same; header = header; above = above; shape = shape }

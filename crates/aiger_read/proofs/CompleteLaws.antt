@@ -1,4 +1,5 @@
--- Every file of a netlist is taken, and gives the netlist's numbers. Assumes nothing.
+-- Every file of a netlist is taken, and gives the netlist's numbers; where its header is out of limits, or an output
+-- has a fault, it is refused at that line. Assumes nothing.
 use mathlib.Core.Path.{_≡_, refl, sym, ap, ap₂, _∙_}
 use mathlib.Core.Bool.{Bool, true, false, cond, not, _&&_, _||_}
 use mathlib.Core.List.{List, [], _∷_, _++_}
@@ -17,17 +18,19 @@ use Rattle.netlist.proofs.LiteralLaws.{literal-plain, literal-inverted}
 use Rattle.netlist.proofs.ValidLaws.{Valid, valid, free-below}
 use Rattle.aiger.specs.Rows.{line, headerRow}
 use Rattle.aiger.specs.Format.{inputLine, latchLine, outputLine, gateLine, fileWith}
-use Rattle.aiger_read.specs.Fields.{fields, fieldsOf}
-use Rattle.aiger_read.specs.Lines.{Row, row}
-use Rattle.aiger_read.specs.Files.{rows, behind, rowsOf, hasTag, headed, fileRead}
-use Rattle.aiger_read.specs.Claims.{IsFile}
+use Rattle.aiger_read.specs.declared.Fault.{Fault}
+use Rattle.aiger_read.specs.declared.Fault.the-variants.{OutOfLimits}
+use Rattle.aiger_read.specs.Fields.{fields}
+use Rattle.aiger_read.specs.Lines.{Row, row, fault}
+use Rattle.aiger_read.specs.Files.{rows, failed, behind, rowsOf, hasTag, headed, fileRead}
+use Rattle.aiger_read.specs.Claims.{IsFile, fileTo, lineOfOutput}
 use Rattle.aiger_read.proofs.LimitLaws.{header-sum}
 use Rattle.aiger_read.proofs.PlaceLaws.{At, at-split, at-whole, at-parts}
 use Rattle.aiger_read.proofs.FieldLaws.{Small, stand-fields}
 use Rattle.aiger_read.proofs.TextLaws.{input-complete, output-complete, latch-complete, gate-complete}
-use Rattle.aiger_read.proofs.RunLaws.{of-run}
+use Rattle.aiger_read.proofs.RunLaws.{of-run, fault-run}
 use Rattle.aiger_read.proofs.LayoutLaws.{pairAt, oneAt, made}
-use Rattle.aiger_read.proofs.BodyLaws.{inputRows, latchRows, outputRows, gateRows, body-made}
+use Rattle.aiger_read.proofs.BodyLaws.{inputRows, latchRows, outputRows, gateRows, body-made, body-fault}
 use Rattle.aiger_read.proofs.SoundLaws.{counted}
 use Rattle.aiger_read.proofs.FileLaws.{tag, joined-none}
 
@@ -38,6 +41,28 @@ complete-run s at T N F n line p q a step =
     let r = of-run at F (λ k. p + length (joined T k)) N n 0 line (λ k h. rw zero-add (step k (p + length (joined T k)) (p + length (joined T (suc k))) h (at-parts T n p q a k h))) in
     let z : p + length (joined T 0) ≡ p = add-zero p in
     rw (z, ← (a .place)) at r
+
+-- and up to one with a fault
+faulty-run : (s : List ℕ) (at : ℕ → ℕ → ℕ → Row) (T N : ℕ → List ℕ) (F : ℕ → ℕ) (e : Fault) (k n line p q : ℕ) → k < n → At s p (joined T k) q
+    → ((j x y : ℕ) → j < k → At s x (T j) y → at j (F j) x ≡ row (N j) (F (suc j)) y) → at k (F k) q ≡ fault e → rowsOf at n 0 line (F 0) p ≡ failed e (line + k)
+faulty-run s at T N F e k n line p q l a step bad =
+    let z : p + length (joined T 0) ≡ p = add-zero p in
+    let b : at (0 + k) (F k) (p + length (joined T k)) ≡ fault e = rw (zero-add, ← (a .place)) bad in
+    let r = fault-run at F (λ j. p + length (joined T j)) N e k n 0 line l (λ j h. rw zero-add (step j (p + length (joined T j)) (p + length (joined T (suc j))) h (at-parts T k p q a j h))) b in
+    rw z at r
+
+-- the numbers of a header that stands there
+module _ (s : List ℕ) (m i l o a q : ℕ) (stands : At s 0 (headerRow m i l o a) q) (few : Small (m ∷ i ∷ l ∷ o ∷ a ∷ [])) where
+  head-read : fileRead s ≡ headed s (fields (m ∷ i ∷ l ∷ o ∷ a ∷ []) q)
+  unfolding fileRead hasTag headerRow
+  head-read =
+      let tagged : hasTag s ≡ true = ap hasTag (stands .text) in
+      let numbers : At s 4 (line m (i ∷ l ∷ o ∷ a ∷ [])) q = at-split tag (line m (i ∷ l ∷ o ∷ a ∷ [])) stands .1 in
+      rw (tagged, stand-fields s (i ∷ l ∷ o ∷ a ∷ []) m 4 q few numbers)
+
+  pub head-fault : headerOk m i l o a ≡ false → fileRead s ≡ failed OutOfLimits 1
+  unfolding headed
+  head-fault e = head-read ∙ rw e
 
 module _ (s net : List ℕ) (explicit : ℕ → Bool) (is : isNetlist net ≡ true) where
   abbrev v : Valid net
@@ -89,14 +114,16 @@ module _ (s net : List ℕ) (explicit : ℕ → Bool) (is : isNetlist net ≡ tr
       (own-small (latchVariable net k) (omega (arith, v .sum, v .small))) (w .1) (reset-small k h) (w .0) (reset-fits k h) b
       ∙ ap (λ (f : ℕ). row (pairAt net (5 + 2 * k)) f y) (free-next k))
 
+  output-run : (f k x y : ℕ) → k < outputCount net → At s x (outputLine net k) y → outputRows s (maximum net) k f x ≡ row (oneAt net (5 + 2 * latchCount net + k)) f y
+  unfolding outputLine
+  output-run f k x y h b =
+      let w = within (getD net (outputAt net k) 0) (v .outputs k h) in
+      output-complete s f x y (literalOf (maximum net) true) (getD net (outputAt net k) 0) (w .0) (w .1) b
+
   outputs-run : (f p q line : ℕ) → At s p (joined (outputLine net) (outputCount net)) q
       → rowsOf (outputRows s (maximum net)) (outputCount net) 0 line f p ≡ rows (joined (λ k. oneAt net (5 + 2 * latchCount net + k)) (outputCount net)) f q
-  unfolding outputLine
   outputs-run f p q line a =
-      complete-run s (outputRows s (maximum net)) (outputLine net) (λ k. oneAt net (5 + 2 * latchCount net + k)) (λ _. f) (outputCount net) line p q a
-      (λ k x y h b.
-      let w = within (getD net (outputAt net k) 0) (v .outputs k h) in
-      output-complete s f x y (literalOf (maximum net) true) (getD net (outputAt net k) 0) (w .0) (w .1) b)
+      complete-run s (outputRows s (maximum net)) (outputLine net) (λ k. oneAt net (5 + 2 * latchCount net + k)) (λ _. f) (outputCount net) line p q a (output-run f)
 
   gates-run : (f p q line : ℕ) → At s p (joined (gateLine net) (gateCount net)) q
       → rowsOf (gateRows s (inputCount net) (latchCount net)) (gateCount net) 0 line f p ≡ rows (joined (λ k. pairAt net (5 + 2 * latchCount net + outputCount net + 2 * k)) (gateCount net)) f q
@@ -109,28 +136,15 @@ module _ (s net : List ℕ) (explicit : ℕ → Bool) (is : isNetlist net ≡ tr
 
   -- ---- the header
   ok : headerOk (maximum net) (inputCount net) (latchCount net) (outputCount net) (gateCount net) ≡ true
-  ok = header-sum (maximum net) (inputCount net) (latchCount net) (outputCount net) (gateCount net) (v .small) (v .some) (v .few) (v .single) ∙ eq-eqb _ _ (v .sum)
+  ok = header-sum (maximum net) (inputCount net) (latchCount net) (outputCount net) (gateCount net) (v .small) (v .some) (v .few) (v .output) (v .most) ∙ eq-eqb _ _ (v .sum)
 
-  head-read : (q : ℕ) → At s 0 (headerRow (maximum net) (inputCount net) (latchCount net) (outputCount net) (gateCount net)) q
-      → fieldsOf s 4 4 ≡ fields (maximum net ∷ inputCount net ∷ latchCount net ∷ outputCount net ∷ gateCount net ∷ []) q
-  unfolding headerRow Small
-  head-read q a =
-      let parts = at-split tag (line (maximum net) (inputCount net ∷ latchCount net ∷ outputCount net ∷ gateCount net ∷ [])) a in
-      let b : At s 4 (line (maximum net) (inputCount net ∷ latchCount net ∷ outputCount net ∷ gateCount net ∷ [])) q = parts .1 in
-      let m : maximum net < 100000 = omega (arith, v .small) in
-      let i : inputCount net < 100000 = omega (arith, v .few) in
-      let l : latchCount net < 100000 = omega (arith, v .sum, v .small) in
-      let o : outputCount net < 100000 = omega (arith, v .single) in
-      let g : gateCount net < 100000 = omega (arith, v .sum, v .small) in
-      stand-fields s (inputCount net ∷ latchCount net ∷ outputCount net ∷ gateCount net ∷ []) (maximum net) 4 q (m, (i, (l, (o, (g, tt))))) b
-
-  tagged : s ≡ fileWith net explicit → hasTag s ≡ true
-  unfolding hasTag fileWith headerRow
-  tagged e = rw e
+  small : Small (maximum net ∷ inputCount net ∷ latchCount net ∷ outputCount net ∷ gateCount net ∷ [])
+  unfolding Small
+  small = (omega (arith, v .small), (omega (arith, v .few), (omega (arith, v .sum, v .small), (omega (arith, v .most), (omega (arith, v .sum, v .small), tt)))))
 
   -- ---- the whole
   file-read : s ≡ fileWith net explicit → length net ≡ sizeOf net → (free q : ℕ) × (fileRead s ≡ rows net free q)
-  unfolding fileRead headed behind fileWith
+  unfolding headed behind fileWith
   file-read e size =
       let h = headerRow (maximum net) (inputCount net) (latchCount net) (outputCount net) (gateCount net) in
       let t1 = joined inputLine (inputCount net) in
@@ -145,7 +159,28 @@ module _ (s net : List ℕ) (explicit : ℕ → Bool) (is : isNetlist net ≡ tr
       let b =
       body-made s (maximum net) (inputCount net) (latchCount net) (outputCount net) (gateCount net) [] _ _ _ (0 + length h) 0 (0 + length h + length t1) f
       (0 + length h + length t1 + length t2) f (0 + length h + length t1 + length t2 + length t3) f (length s) (inputs-run _ _ _ (a1 .0)) (latches-run _ _ _ (a2 .0)) (outputs-run f _ _ _ (a3 .0)) (gates-run f _ _ _ (a3 .1)) refl in
-      (f, length s, rw (tagged e, head-read (0 + length h) (a0 .0), ok, b) (ap (λ (x : List ℕ). rows x f (length s)) (sym (made net size))))
+      (f, length s, rw (head-read s (maximum net) (inputCount net) (latchCount net) (outputCount net) (gateCount net) (0 + length h) (a0 .0) small, ok, b) (ap (λ (x : List ℕ). rows x f (length s)) (sym (made net size))))
+
+  -- ---- the line of output k has a fault
+  pub file-fault : (e : Fault) (k : ℕ) (more : List ℕ) → s ≡ fileTo net explicit k ++ more → k < outputCount net
+      → ((f p : ℕ) → At s p more (length s) → outputRows s (maximum net) k f p ≡ fault e) → fileRead s ≡ failed e (lineOfOutput net k)
+  unfolding headed behind fileTo
+  file-fault e k more is-text l bad =
+      let h = headerRow (maximum net) (inputCount net) (latchCount net) (outputCount net) (gateCount net) in
+      let t1 = joined inputLine (inputCount net) in
+      let t2 = joined (latchLine net explicit) (latchCount net) in
+      let t3 = joined (outputLine net) k in
+      let a = at-split (h ++ (t1 ++ (t2 ++ t3))) more (at-whole ((h ++ (t1 ++ (t2 ++ t3))) ++ more) is-text) in
+      let a0 = at-split h (t1 ++ (t2 ++ t3)) (a .0) in
+      let a1 = at-split t1 (t2 ++ t3) (a0 .1) in
+      let a2 = at-split t2 t3 (a1 .1) in
+      let f = freeCount net (latchCount net) in
+      let b =
+      body-fault s (maximum net) (inputCount net) (latchCount net) (outputCount net) (gateCount net) [] _ (0 + length h) 0 (0 + length h + length t1) f
+      (0 + length h + length t1 + length t2) e (lineOfOutput net k) (inputs-run _ _ _ (a1 .0)) (latches-run _ _ _ (a2 .0))
+      (faulty-run s (outputRows s (maximum net)) (outputLine net) (λ j. oneAt net (5 + 2 * latchCount net + j)) (λ _. f) e k (outputCount net) _ _ _ l (a2 .1)
+      (λ j x y i c. output-run f j x y (omega arith) c) (bad f _ (a .1))) in
+      rw (head-read s (maximum net) (inputCount net) (latchCount net) (outputCount net) (gateCount net) (0 + length h) (a0 .0) small, ok, b)
 
 pub complete : (text net : List ℕ) → IsFile text net → (free q : ℕ) × (fileRead text ≡ rows net free q)
 complete text net f = file-read text net (f .explicit) (f .netlist) (f .is) (f .exact)

@@ -1,5 +1,5 @@
--- Files of the AIGER distribution, graph G's and one with latches, and faulty ones: what read answers by the
--- definitions, and what the netlists taken mean. Assumes nothing.
+-- Files of the AIGER distribution, graph G's with one output and with two, and one with latches, and faulty
+-- ones: what read answers by the definitions, and what the netlists taken mean. Assumes nothing.
 use mathlib.Core.Path.{_≡_, refl}
 use mathlib.Core.Bool.{Bool, not, _&&_}
 use mathlib.Core.List.{List, [], _∷_, _++_, map}
@@ -37,12 +37,20 @@ latched latch output gate =
 abbrev latchedNet : List ℕ
 latchedNet = 6 ∷ 1 ∷ 4 ∷ 1 ∷ 1 ∷ 2 ∷ 0 ∷ 4 ∷ 0 ∷ 6 ∷ 1 ∷ 8 ∷ 10 ∷ 12 ∷ 10 ∷ 3 ∷ []
 
+-- An input and two outputs, the input and its inverse.
+abbrev bothNet : List ℕ
+bothNet = 1 ∷ 1 ∷ 0 ∷ 2 ∷ 0 ∷ 2 ∷ 3 ∷ []
+
 pub record Table : Type 0 where
-  -- taken: a buffer, an inverter, graph G of document 01, and the latches, with and without an explicit reset 0
+  -- taken: a buffer, an inverter, both of these, graph G of document 01 with one output and with two, and the
+  -- latches, with and without an explicit reset 0
   pub buffer : reads (bytes "aag 1 1 0 1 0\n2\n2\n") (1 ∷ 1 ∷ 0 ∷ 1 ∷ 0 ∷ 2 ∷ [])
   pub inverter : reads (bytes "aag 1 1 0 1 0\n2\n3\n") (1 ∷ 1 ∷ 0 ∷ 1 ∷ 0 ∷ 3 ∷ [])
+  pub both : reads (bytes "aag 1 1 0 2 0\n2\n2\n3\n") bothNet
   pub graph : reads (bytes "aag 12 3 2 1 7\n2\n4\n6\n8 18\n10 25\n24\n12 8 3\n14 10 3\n16 4 2\n18 16 6\n20 16 7\n22 4 0\n24 23 21\n")
       (12 ∷ 3 ∷ 2 ∷ 1 ∷ 7 ∷ 18 ∷ 0 ∷ 25 ∷ 0 ∷ 24 ∷ 8 ∷ 3 ∷ 10 ∷ 3 ∷ 4 ∷ 2 ∷ 16 ∷ 6 ∷ 16 ∷ 7 ∷ 4 ∷ 0 ∷ 23 ∷ 21 ∷ [])
+  pub checked : reads (bytes "aag 13 3 2 2 8\n2\n4\n6\n8 18\n10 25\n24\n27\n12 8 3\n14 10 3\n16 4 2\n18 16 6\n20 16 7\n22 4 0\n24 23 21\n26 24 19\n")
+      (13 ∷ 3 ∷ 2 ∷ 2 ∷ 8 ∷ 18 ∷ 0 ∷ 25 ∷ 0 ∷ 24 ∷ 27 ∷ 8 ∷ 3 ∷ 10 ∷ 3 ∷ 4 ∷ 2 ∷ 16 ∷ 6 ∷ 16 ∷ 7 ∷ 4 ∷ 0 ∷ 23 ∷ 21 ∷ 24 ∷ 19 ∷ [])
   pub explicit : reads (latched "6 4 0\n" "12\n" "12 10 3\n") latchedNet
   pub plain : reads (latched "6 4\n" "12\n" "12 10 3\n") latchedNet
   -- refused: the header's limits from both sides, where the first line after a header within them is missing
@@ -52,7 +60,8 @@ pub record Table : Type 0 where
   pub variables-over : refuses (bytes "aag 4096 1 4095 1 0\n") OutOfLimits 1
   pub variables-most : refuses (bytes "aag 4095 1 4094 1 0\n") WrongShape 2
   pub header-sum : refuses (bytes "aag 3 1 1 1 0\n") OutOfLimits 1
-  pub outputs-over : refuses (bytes "aag 1 1 0 2 0\n") OutOfLimits 1
+  pub outputs-over : refuses (bytes "aag 1 1 0 3 0\n2\n2\n") OutOfLimits 1
+  pub outputs-most : refuses (bytes "aag 1 1 0 2 0\n") WrongShape 2
   pub header-less : refuses (bytes "aag 2 1 1 1 1\n") OutOfLimits 1
   pub outputs-none : refuses (bytes "aag 1 1 0 0 0\n2\n") OutOfLimits 1
   pub header-shape : refuses (bytes "aag 1 1 0 1\n") WrongShape 1
@@ -76,6 +85,11 @@ pub record Table : Type 0 where
   pub output-shape : refuses (latched "6 4\n" "12 1\n" "12 10 3\n") WrongShape 7
   pub gate-limit : refuses (latched "6 4\n" "12\n" "14 10 3\n") OutOfLimits 8
   pub gate-missing : refuses (latched "6 4\n" "12\n" "") WrongShape 8
+  -- of two outputs the second missing, above the largest literal; behind both a gate out of order, a line more
+  pub second-missing : refuses (bytes "aag 1 1 0 2 0\n2\n2\n") WrongShape 4
+  pub second-limit : refuses (bytes "aag 1 1 0 2 0\n2\n2\n4\n") OutOfLimits 4
+  pub second-gate : refuses (bytes "aag 2 1 0 2 1\n2\n2\n3\n6 2 0\n") OutOfLimits 5
+  pub second-longer : refuses (bytes "aag 1 1 0 2 0\n2\n2\n3\n2\n") WrongShape 5
   -- a seventh uninitialised latch
   pub seventh : refuses (bytes "aag 8 1 7 1 0\n2\n4 2 4\n6 2 6\n8 2 8\n10 2 10\n12 2 12\n14 2 14\n16 2 16\n2\n") OutOfLimits 9
   -- no last LF, a line more, no text
@@ -89,7 +103,9 @@ table =
     record {
       buffer = refl;
       inverter = refl;
+      both = refl;
       graph = refl;
+      checked = refl;
       explicit = refl;
       plain = refl;
       no-input = refl;
@@ -99,6 +115,7 @@ table =
       variables-most = refl;
       header-sum = refl;
       outputs-over = refl;
+      outputs-most = refl;
       header-less = refl;
       outputs-none = refl;
       header-shape = refl;
@@ -117,20 +134,26 @@ table =
       output-shape = refl;
       gate-limit = refl;
       gate-missing = refl;
+      second-missing = refl;
+      second-limit = refl;
+      second-gate = refl;
+      second-longer = refl;
       seventh = refl;
       unended = refl;
       longer = refl;
       no-text = refl;
     }
 
--- what the netlists mean, for the input b and the latches w x y z: the output is the input, its inverse, and
--- the fourth latch AND the input's inverse; each latch takes what is before it
+-- what the netlists mean, for the input b and the latches w x y z: the output is the input, its inverse, the one
+-- and then the other, and the fourth latch AND the input's inverse; each latch takes what is before it
 abbrev latchedValues : Bool → Bool → Bool → Bool → Bool → List Bool
 latchedValues b w x y z = valuesOf bools latchedNet (b ∷ []) (w ∷ x ∷ y ∷ z ∷ [])
 
 pub record Meanings : Type 0 where
   pub buffers : (b : Bool) → outputOf bools (1 ∷ 1 ∷ 0 ∷ 1 ∷ 0 ∷ 2 ∷ []) 0 (valuesOf bools (1 ∷ 1 ∷ 0 ∷ 1 ∷ 0 ∷ 2 ∷ []) (b ∷ []) []) ≡ b
   pub inverts : (b : Bool) → outputOf bools (1 ∷ 1 ∷ 0 ∷ 1 ∷ 0 ∷ 3 ∷ []) 0 (valuesOf bools (1 ∷ 1 ∷ 0 ∷ 1 ∷ 0 ∷ 3 ∷ []) (b ∷ []) []) ≡ not b
+  pub first : (b : Bool) → outputOf bools bothNet 0 (valuesOf bools bothNet (b ∷ []) []) ≡ b
+  pub second : (b : Bool) → outputOf bools bothNet 1 (valuesOf bools bothNet (b ∷ []) []) ≡ not b
   pub joins : (b w x y z : Bool) → outputOf bools latchedNet 0 (latchedValues b w x y z) ≡ (z && not b)
   pub shifts : (b w x y z : Bool) → nextOf bools latchedNet (latchedValues b w x y z) ≡ b ∷ w ∷ x ∷ y ∷ []
 
@@ -140,6 +163,8 @@ meanings =
     record {
       buffers = λ b. refl;
       inverts = λ b. refl;
+      first = λ b. refl;
+      second = λ b. refl;
       joins = λ b w x y z. refl;
       shifts = λ b w x y z. refl;
     }

@@ -64,4 +64,4 @@ module _ (s : List ℕ) where
     unfolding HeadIs fileRead inputsOf
     head-good h e =
         let k = header (v 0) (v 1) (v 2) (v 3) (v 4) e in
-        (rw tag (headed-read (fieldsOf s 4 4) is (fields-length s 4 4) h ∙ rw e), (omega (arith, k .sum, k .small), omega (arith, k .single), k .small))
+        (rw tag (headed-read (fieldsOf s 4 4) is (fields-length s 4 4) h ∙ rw e), (omega (arith, k .sum, k .small), omega (arith, k .output, k .most), k .small))

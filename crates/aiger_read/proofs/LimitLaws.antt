@@ -25,9 +25,9 @@ module _ (m i l o a : ℕ) where
   and-true false = refl
 
   -- the sum is the last test
-  pub header-sum : m ≤ 4095 → 1 ≤ i → i ≤ 64 → o ≡ 1 → headerOk m i l o a ≡ eqb m (i + l + a)
+  pub header-sum : m ≤ 4095 → 1 ≤ i → i ≤ 64 → 1 ≤ o → o ≤ 2 → headerOk m i l o a ≡ eqb m (i + l + a)
   unfolding headerOk
-  header-sum h1 h2 h3 h4 = rw (le-leb m 4095 h1, le-leb 1 i h2, le-leb i 64 h3, eq-eqb o 1 h4) (and-true (eqb m (i + l + a)))
+  header-sum h1 h2 h3 h4 h5 = rw (le-leb m 4095 h1, le-leb 1 i h2, le-leb i 64 h3, le-leb 1 o h4, le-leb o 2 h5) (and-true (eqb m (i + l + a)))
 
 module _ (lit next reset free q : ℕ) where
   pub reset-plain : reset ≤ 1 → row (next ∷ reset ∷ []) free q ≡ resetRow lit next reset free q

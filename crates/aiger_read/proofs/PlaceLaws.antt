@@ -45,6 +45,10 @@ module _ {s : List ℕ} where
   pub whole-at : (t : List ℕ) (q : ℕ) → At s 0 t q → q ≡ length s → s ≡ t
   whole-at t q a e = a .text ∙ ap (λ (l : List ℕ). t ++ l) (ap (λ (n : ℕ). drop n s) e ∙ drop-length s) ∙ append-nil t
 
+  -- the rest of s
+  pub at-rest : {p : ℕ} {t : List ℕ} → At s p t (length s) → t ≡ drop p s
+  at-rest {p} {t} a = sym (a .text ∙ ap (λ (l : List ℕ). t ++ l) (drop-length s) ∙ append-nil t)
+
   -- texts one after the other
   pub at-joined : (f : ℕ → List ℕ) (P : ℕ → ℕ) (n : ℕ) → P 0 ≤ length s → ((k : ℕ) → k < n → At s (P k) (f k) (P (suc k))) → At s (P 0) (joined f n) (P n)
   at-joined f P zero h a = at-none h

@@ -112,3 +112,24 @@ module _ (at : ℕ → ℕ → ℕ → Row) where
     where
       next : (k : ℕ) → k < count → at (from + 1 + k) (F (suc k)) (P (suc k)) ≡ row (N (suc k)) (F (suc (suc k))) (P (suc (suc k)))
       next k l = let n : from + 1 + k ≡ from + suc k = omega arith in rw n (h (suc k) (omega arith))
+
+  -- FAULTY: k lines that are read, and then one with a fault
+  pub fault-run : (F P : ℕ → ℕ) (N : ℕ → List ℕ) (e : Fault) (k count from line : ℕ) → k < count
+      → ((j : ℕ) → j < k → at (from + j) (F j) (P j) ≡ row (N j) (F (suc j)) (P (suc j)))
+      → at (from + k) (F k) (P k) ≡ fault e → rowsOf at count from line (F 0) (P 0) ≡ failed e (line + k)
+  unfolding rowsOf onRow behind
+  fault-run F P N e k zero from line l h g = absurd (omega arith)
+  fault-run F P N e zero (suc count) from line l h g =
+      let first : at from (F 0) (P 0) ≡ fault e = rw add-zero at g in
+      rw (first, add-zero)
+  fault-run F P N e (suc k) (suc count) from line l h g =
+      let first : at from (F 0) (P 0) ≡ row (N 0) (F 1) (P 1) = rw add-zero at (h 0 (omega arith)) in
+      let m : from + 1 + k ≡ from + suc k = omega arith in
+      let n : line + 1 + k ≡ line + suc k = omega arith in
+      let rest =
+      fault-run (λ j. F (suc j)) (λ j. P (suc j)) (λ j. N (suc j)) e k count (from + 1) (line + 1) (omega arith)
+      (λ j i. next j i) (rw m g) in
+      rw (first, rest, n)
+    where
+      next : (j : ℕ) → j < k → at (from + 1 + j) (F (suc j)) (P (suc j)) ≡ row (N (suc j)) (F (suc (suc j))) (P (suc (suc j)))
+      next j i = let n : from + 1 + j ≡ from + suc j = omega arith in rw n (h (suc j) (omega arith))

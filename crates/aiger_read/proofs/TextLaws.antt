@@ -4,13 +4,13 @@ use mathlib.Core.Bool.{Bool, true, false, cond, not, _&&_, _||_}
 use mathlib.Core.List.{List, [], _∷_}
 use Prim.Native.Nat.{ℕ, _+_, _≤_, _<_}
 use native.Mathlib.Omega.{arith}
-use borrow.Author.Tests.{leb-true, eqb-true, ltb-true, le-leb, eq-eqb, lt-ltb}
+use borrow.Author.Tests.{leb-true, eqb-true, ltb-true, le-leb, lt-leb, eq-eqb, lt-ltb}
 use lib.Dec.{eqb, leb, ltb}
 use lib.ListN.{length, getD, List·getD-eq-default}
 use Rattle.netlist.proofs.EachLaws.{both}
 use Rattle.aiger.specs.Rows.{line, literalRow, latchRow, gateRow}
 use Rattle.aiger_read.specs.declared.Fault.{Fault}
-use Rattle.aiger_read.specs.declared.Fault.the-variants.{OutOfLimits}
+use Rattle.aiger_read.specs.declared.Fault.the-variants.{WrongShape, OutOfLimits}
 use Rattle.aiger_read.specs.Fields.{Fields, wrong, fields, fieldsOf, latchFields}
 use Rattle.aiger_read.specs.Lines.{Row, row, fault, judged, inputAt, latchFits, latchAt, outputAt, gateFits, gateAt}
 use Rattle.aiger_read.proofs.LineLaws.{or-two, or-three, fields-length}
@@ -228,3 +228,20 @@ module _ (s : List ℕ) (f p q : ℕ) where
   latch-complete explicit last lit next reset m1 m2 m3 h g a =
       let n = latch-numbers explicit lit next reset m1 m2 m3 a in
       rw (n .1, n .2, n .3, n .4, eq-eqb lit lit refl, le-leb next last h, g)
+
+-- ---- faulty: an output's line with a number that does not fit, or with none
+
+module _ (s : List ℕ) (f p last : ℕ) where
+  pub output-above : (v q : ℕ) → last < v → v < 100000 → At s p (literalRow v) q → outputAt s last f p ≡ fault OutOfLimits
+  unfolding outputAt literalRow judged Small
+  output-above v q h m a = rw (stand-fields s [] v p q (m, tt) a, lt-leb v last h)
+
+  pub output-wrong : ((v r : ℕ) → v < 100000 → At s p (literalRow v) r → ⊥) → outputAt s last f p ≡ fault WrongShape
+  unfolding outputAt judged Small
+  output-wrong none = go (fieldsOf s 0 p) refl
+    where
+      go : (x : Fields) → fieldsOf s 0 p ≡ x → judged x (λ vs q. cond (leb (getD vs 0 0) last) (row (getD vs 0 0 ∷ []) f q) (fault OutOfLimits)) ≡ fault WrongShape
+      go wrong e = refl
+      go (fields vs r) e =
+          let n = one vs (fields-length s 0 p vs r e) in
+          absurd (none (getD vs 0 0) r (subst Small n (fields-stand s 0 p vs r e .small) .0) (one-at s f p [] f r vs r e))

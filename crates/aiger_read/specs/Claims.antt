@@ -1,14 +1,18 @@
--- What the contract of read claims: it takes exactly the files, and reading what was written gives the
--- same numbers. Assumes nothing.
+-- What the contract of read claims: it takes exactly the files, reading what was written gives the same
+-- numbers, and a header out of limits and a faulty output are told at their own lines. Assumes nothing.
 use mathlib.Core.Path.{_≡_}
-use mathlib.Core.Bool.{Bool, true}
+use mathlib.Core.Bool.{Bool, true, false}
 use mathlib.Core.List.{List, _++_}
-use Prim.Native.Nat.{ℕ, _<_, _≤_}
+use Prim.Native.Nat.{ℕ, _+_, _<_, _≤_}
 use lib.ListN.{length, take, drop}
-use Rattle.netlist.specs.Layout.{sizeOf}
-use Rattle.netlist.specs.Valid.{isNetlist}
-use Rattle.aiger.specs.Format.{fileWith, fileOf}
+use Rattle.text.specs.Writer.{joined}
+use Rattle.netlist.specs.Layout.{maximum, inputCount, latchCount, outputCount, gateCount, sizeOf}
+use Rattle.netlist.specs.Literals.{literalOf}
+use Rattle.netlist.specs.Valid.{headerOk, isNetlist}
+use Rattle.aiger.specs.Rows.{headerRow, literalRow}
+use Rattle.aiger.specs.Format.{inputLine, latchLine, outputLine, fileWith, fileOf}
 use Rattle.aiger_read.specs.declared.Fault.{Fault}
+use Rattle.aiger_read.specs.declared.Fault.the-variants.{WrongShape, OutOfLimits}
 use Rattle.aiger_read.specs.declared.Cause.the-variants.{TextTooLong, ShortBuffer, FaultyLine}
 use Rattle.aiger_read.specs.declared.ReadOutcome.the-variants.{Numbers, Refused}
 use Rattle.aiger_read.specs.Read.{readEnd, readOf}
@@ -19,6 +23,23 @@ pub record IsFile (text net : List ℕ) : Type 0 where
   pub exact : length net ≡ sizeOf net
   pub explicit : ℕ → Bool
   pub is : text ≡ fileWith net explicit
+
+-- a file of the netlist net, up to the line of output k
+unfoldable pub fileTo : List ℕ → (ℕ → Bool) → ℕ → List ℕ
+fileTo net explicit k =
+    headerRow (maximum net) (inputCount net) (latchCount net) (outputCount net) (gateCount net)
+    ++ (joined inputLine (inputCount net) ++ (joined (latchLine net explicit) (latchCount net) ++ joined (outputLine net) k))
+
+-- the number of that line
+abbrev pub lineOfOutput : List ℕ → ℕ → ℕ
+lineOfOutput net k = inputCount net + latchCount net + 2 + k
+
+-- a text starts with the line of a number of at most five digits
+pub record StartsWithNumber (text : List ℕ) : Type 0 where
+  pub lit : ℕ
+  pub more : List ℕ
+  pub small : lit < 100000
+  pub is : text ≡ literalRow lit ++ more
 
 -- THE CLAIM, of any text and any buffer lent
 pub record ReadMeans : Type 0 where
@@ -42,3 +63,15 @@ pub record ReadMeans : Type 0 where
   -- two netlists with the same written text are the same
   pub same : (net other : List ℕ) → isNetlist net ≡ true → isNetlist other ≡ true → fileOf net ≡ fileOf other
       → take (sizeOf net) net ≡ take (sizeOf other) other
+  -- a header of the right shape whose numbers break the limits is told as such, at line 1
+  pub header : (buf : List ℕ) (m i l o a : ℕ) (more : List ℕ) → m < 100000 → i < 100000 → l < 100000 → o < 100000 → a < 100000
+      → headerOk m i l o a ≡ false → length (headerRow m i l o a ++ more) ≤ 65536
+      → readOf (headerRow m i l o a ++ more) buf ≡ readEnd (Refused (FaultyLine OutOfLimits 1)) buf
+  -- where the line of output k is due, that of a number above the largest literal breaks the limits, there
+  pub above : (net buf : List ℕ) (explicit : ℕ → Bool) (k lit : ℕ) (more : List ℕ) → isNetlist net ≡ true → k < outputCount net
+      → literalOf (maximum net) true < lit → lit < 100000 → length (fileTo net explicit k ++ (literalRow lit ++ more)) ≤ 65536
+      → readOf (fileTo net explicit k ++ (literalRow lit ++ more)) buf ≡ readEnd (Refused (FaultyLine OutOfLimits (lineOfOutput net k))) buf
+  -- and what is no number's line, or nothing at all, has the wrong shape, there
+  pub shape : (net buf : List ℕ) (explicit : ℕ → Bool) (k : ℕ) (more : List ℕ) → isNetlist net ≡ true → k < outputCount net
+      → (StartsWithNumber more → ⊥) → length (fileTo net explicit k ++ more) ≤ 65536
+      → readOf (fileTo net explicit k ++ more) buf ≡ readEnd (Refused (FaultyLine WrongShape (lineOfOutput net k))) buf

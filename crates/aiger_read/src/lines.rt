@@ -25,6 +25,9 @@ const MAX_VARIABLES: usize = 4095;
 // The most inputs.
 const MAX_INPUTS: usize = 64;
 
+// The most outputs.
+const MAX_OUTPUTS: usize = 2;
+
 // The most uninitialised latches.
 const MAX_FREE: usize = 6;
 
@@ -164,7 +167,7 @@ pub(crate) fn line_of(s: &[u8], kind: Kind, k: u16, free: usize, at: usize) -> L
     }
 }
 
-// The limits of a header. No count is above M, so their sum does not wrap.
+// The limits of a header. Each term of the sum is limited before it, so that it does not wrap.
 fn header_fits(m: usize, i: usize, l: usize, o: usize, a: usize) -> bool
     ensures { λ r. ⌜ r ≡ headerOk m i l o a ⌝ }
 {
@@ -183,7 +186,10 @@ fn header_fits(m: usize, i: usize, l: usize, o: usize, a: usize) -> bool
     if a > m {
         return false;
     }
-    if o != 1 {
+    if o < 1 {
+        return false;
+    }
+    if o > MAX_OUTPUTS {
         return false;
     }
     m == i + l + a

@@ -3,5 +3,7 @@ pub mod ListLaws
 pub mod TerminalLaws
 pub mod SinceLaws
 pub mod PathLaws
+pub mod VoidLaws
 pub mod AlikeLaws
 mod Examples
+mod CheckedExamples

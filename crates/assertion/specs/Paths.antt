@@ -1,5 +1,6 @@
--- What demand 3 counts: cycles that some setting and some rejecting path condemn. Nothing here knows of
--- latches, gates, tokens or a tally. `T b` says that the test b passes. Assumes nothing.
+-- What demand 3 counts: cycles that some setting and some rejecting path condemn, and cycles in which a rule was
+-- at stake. Nothing here knows of latches, gates, tokens or a tally. `T b` says that the test b passes. Assumes
+-- nothing.
 use Prim.Native.Nat.{ℕ, _+_, _<_}
 use mathlib.Core.Path.{_≡_}
 use mathlib.Core.Bool.{Bool, true, false, not, _&&_, _||_, cond}
@@ -71,6 +72,23 @@ pub record Rejected (g : Graph) (cycles : List Cycle) : Type 0 where
   pub path : List Edge
   pub rejects : RejectingPath g setting (sinceInit cycles) path
 
+-- document 02, No. 7: "some path from the latest init, ending on a terminal edge, meet all antecedents": a
+-- rejecting path without a word on consequents
+pub record CheckingPath (g : Graph) (σ : Setting) (w : List Cycle) (p : List Edge) : Type 0 where
+  pub of-graph : From p (g .edges)
+  pub one-a-cycle : length p ≡ length w
+  pub joined : T (leaves 0 p)
+  pub terminal : T (endsTerminal g p)
+  pub antecedents : T (antecedentsTrue σ p w)
+
+-- in the last of these cycles a rule was at stake: "a cycle counts exactly when some setting and some path"
+-- are such
+pub record Checked (g : Graph) (cycles : List Cycle) : Type 0 where
+  pub setting : Setting
+  pub a-bit-each : length setting ≡ constantBits g
+  pub path : List Edge
+  pub checks : CheckingPath g setting (sinceInit cycles) path
+
 -- ---- the same, computed: every setting and every list of as many edges as cycles is tried
 unfoldable pub rejectsAlong : Graph → Setting → List Cycle → List Edge → Bool
 rejectsAlong g σ w p = leaves 0 p && (endsTerminal g p && (antecedentsTrue σ p w && consequentFalse σ p w))
@@ -81,12 +99,25 @@ rejectedUnder g σ cs = any (rejectsAlong g σ (sinceInit cs)) (lists (length (s
 unfoldable pub isRejected : Graph → List Cycle → Bool
 isRejected g cs = any (λ σ. rejectedUnder g σ cs) (lists (constantBits g) (false ∷ true ∷ []))
 
+unfoldable pub checksAlong : Graph → Setting → List Cycle → List Edge → Bool
+checksAlong g σ w p = leaves 0 p && (endsTerminal g p && antecedentsTrue σ p w)
+
+unfoldable pub checkedUnder : Graph → Setting → List Cycle → Bool
+checkedUnder g σ cs = any (checksAlong g σ (sinceInit cs)) (lists (length (sinceInit cs)) (g .edges))
+
+unfoldable pub isChecked : Graph → List Cycle → Bool
+isChecked g cs = any (λ σ. checkedUnder g σ cs) (lists (constantBits g) (false ∷ true ∷ []))
+
 -- ---- counting
--- one byte a cycle, 1 rejected or 0 accepted, for the cycles cs that come after the cycles seen; a cycle
--- counts once, however many rejecting paths it has
+-- one byte a cycle, for the cycles cs that come after the cycles seen: 1 where the test passes on all cycles up to
+-- and with that one, else 0
+abbrev pub bytesOf : (List Cycle → Bool) → List Cycle → List Cycle → List ℕ
+bytesOf test seen [] = []
+bytesOf test seen (c ∷ cs) = cond (test (seen ++ (c ∷ []))) 1 0 ∷ bytesOf test (seen ++ (c ∷ [])) cs
+
+-- 1 rejected or 0 accepted; a cycle counts once, however many rejecting paths it has
 abbrev pub verdicts : Graph → List Cycle → List Cycle → List ℕ
-verdicts g seen [] = []
-verdicts g seen (c ∷ cs) = cond (isRejected g (seen ++ (c ∷ []))) 1 0 ∷ verdicts g (seen ++ (c ∷ [])) cs
+verdicts g seen cs = bytesOf (isRejected g) seen cs
 
 abbrev pub sum : List ℕ → ℕ
 sum [] = 0
@@ -96,20 +127,26 @@ sum (x ∷ xs) = x + sum xs
 unfoldable pub countRejected : Graph → List Cycle → ℕ
 countRejected g cs = sum (verdicts g [] cs)
 
+-- in how many of them a rule was at stake; here too a cycle counts once
+unfoldable pub countChecked : Graph → List Cycle → ℕ
+countChecked g cs = sum (bytesOf (isChecked g) [] cs)
+
 -- ---- an edge is terminal for one of three reasons
 pub data TerminalEdge (g : Graph) (e : Edge) : Type 0 where
   by-mode : g .mode ≡ Strong → TerminalEdge g e
   by-mark : e .marked ≡ true → TerminalEdge g e
   unmarked : g .mode ≡ Unsaid → ((f : Edge) → List·Memᴰ f (g .edges) → f .marked ≡ false) → TerminalEdge g e
 
--- ---- THE CLAIM on these definitions: the computed tests find a terminal edge, and a setting and a rejecting
--- path, exactly where there are some; `sinceInit` goes back to the latest init; and `==` holds exactly where the
+-- ---- THE CLAIM on these definitions: the computed tests find a terminal edge, and a setting and a path of either
+-- kind, exactly where there are some; `sinceInit` goes back to the latest init; and `==` holds exactly where the
 -- two names are alike in each bit
 pub record PathsMean : Type 0 where
   pub terminal : (g : Graph) (e : Edge) → isTerminal g e ≡ true → TerminalEdge g e
   pub terminals : (g : Graph) (e : Edge) → TerminalEdge g e → isTerminal g e ≡ true
   pub found : (g : Graph) (cs : List Cycle) → isRejected g cs ≡ true → Rejected g cs
   pub finds : (g : Graph) (cs : List Cycle) → Rejected g cs → isRejected g cs ≡ true
+  pub checked-found : (g : Graph) (cs : List Cycle) → isChecked g cs ≡ true → Checked g cs
+  pub checked-finds : (g : Graph) (cs : List Cycle) → Checked g cs → isChecked g cs ≡ true
   pub latest : (cs : List Cycle) → any isInit cs ≡ true → Latest cs
   pub before-init : (cs : List Cycle) → any isInit cs ≡ false → sinceInit cs ≡ []
   pub signal-bit : (σ : Setting) (c : Cycle) (i n : ℕ) → bitHolds σ c (signalsFrom i) n ≡ holds σ c (signal (i + n))

@@ -4,17 +4,20 @@ use mathlib.Core.Bool.{Bool, true, false, cond}
 use mathlib.Core.List.{List, [], _∷_, _++_, map, append-assoc}
 use Prim.Native.Nat.{ℕ, zero, suc, _+_, _*_}
 use native.Mathlib.Omega.{arith}
+use native.Mathlib.Nat.{add-zero}
 use native.Mathlib.Numerals.{add-one}
 use lib.ListN.{length, getD, length-append}
 use lib.Dec.{eqb}
 use Rattle.assertion.specs.Graph.{Edge, Graph, isTerminal, signalBits}
-use Rattle.circuit.specs.Gates.{lit, inv}
-use Rattle.circuit.specs.Build.{init, Two, Pieces, masks, orAll, happyTerms, condemnedTerms, happyOr, condemnedOr, vertexPieces, edgePiece, edgePieces, andAll, acceptTerms, firstEdgeLatch, firstGate, masked, gathered, judged, accepted, gatesOf}
+use Rattle.circuit.specs.Gates.{lit, inv, Gate, Piece}
+use Rattle.circuit.specs.Build.{Bits, init, Two, Pieces, masks, orAll, happyTerms, condemnedTerms, happyOr, condemnedOr, vertexPieces, edgePiece, edgePieces, andAll, acceptTerms, firstEdgeLatch, firstGate, masked, gathered, judged, accepted, gatesOf}
+use Rattle.circuit.specs.Checked.{terminalTwos, alives, checkedFrom, checkedPiece, gatesWith, outputsWith}
 use Rattle.circuit.specs.Numbers.{edgeLatches}
 use Rattle.builder.specs.Private.Adding.{Splits, Added}
-use Rattle.builder.specs.Private.Terms.{maskGates, everyOther, termsOf, orOn, vertexHappy, vertexCondemned, vertexOf, verticesOf, acceptOf, Gathers}
+use Rattle.builder.specs.Private.Terms.{maskGates, everyOther, termsOf, orOn, vertexHappy, vertexCondemned, vertexOf, verticesOf, acceptOf, aliveOf, alivesOf, checkedOf, endsOf, Gathers}
 use Rattle.builder.specs.Private.Edges.{two, edgeOf, edgesOf, targets, marks, markOf}
-use Rattle.builder.specs.Private.Monitor.{gatherOf, gatherGates, judgeGates, acceptAfter, monitorGates, monitorAccept, monitorEdges, JudgeMade, MonitorMade, edgePairs}
+use Rattle.builder.specs.Private.Monitor.{gatherOf, gatherGates, endsAfter, judgeGates, monitorGates, monitorEnds, monitorEdges, JudgeMade, MonitorMade, edgePairs, outputsOf}
+use Rattle.builder.specs.declared.Outputs.{Outputs}
 use Rattle.builder.proofs.AddingLaws.{whole-of}
 use Rattle.builder.proofs.AlikeLaws.{and-all}
 use Rattle.builder.proofs.EdgeLaws.{chosen, length-chosen, targets-chosen, edges-chosen}
@@ -128,31 +131,52 @@ accept-is : (g : Graph) (es : List Edge) (ms : List Two) (n : ℕ) → andAll n 
 unfolding acceptOf orOn
 accept-is g es ms n = rw (accept-terms g es ms) (and-all (termsOf 1 (marks (chosen g es)) (condemneds ms)) n)
 
+-- 5. checked: an edge that is not terminal has no gate, and its key keeps its literal out of the chain
+record Alive (p : Bits) (keys : List ℕ) (a : Bits) : Type 0 where
+  gates : p .gates ≡ a .gates
+  outs : p .outs ≡ termsOf 1 keys (a .outs)
+
+alive-more : (x : Bool) (m : Two) (ts : List Two) (ks hs ds : List ℕ) (n : ℕ) → Alive (alives n ts) ks (alivesOf n ks hs ds) → Alive (alives (suc n) ts) ks (alivesOf (suc n) ks hs ds) →
+    Alive (alives n (cond x (m ∷ ts) ts)) (markOf x ∷ ks) (alivesOf n (markOf x ∷ ks) (m .happy ∷ hs) (m .condemned ∷ ds))
+unfolding aliveOf
+alive-more true m ts ks hs ds n a b = record { gates = rw (add-one n, b .gates); outs = rw (add-one n, b .outs) }
+alive-more false m ts ks hs ds n a b = record { gates = rw (add-zero n) (a .gates); outs = rw (add-zero n) (a .outs) }
+
+alives-are : (g : Graph) (es : List Edge) (ms : List Two) (n : ℕ) → Alive (alives n (terminalTwos g es ms)) (marks (chosen g es)) (alivesOf n (marks (chosen g es)) (happies ms) (condemneds ms))
+alives-are g [] ms n = record { gates = refl; outs = refl }
+alives-are g (e ∷ es) [] n = record { gates = refl; outs = refl }
+alives-are g (e ∷ es) (m ∷ ms) n = alive-more (isTerminal g e) m (terminalTwos g es ms) (marks (chosen g es)) (happies ms) (condemneds ms) n (alives-are g es ms n) (alives-are g es ms (suc n))
+
+checked-is : (g : Graph) (es : List Edge) (ms : List Two) (n : ℕ) → checkedFrom n (terminalTwos g es ms) ≡ checkedOf n (marks (chosen g es)) (happies ms) (condemneds ms)
+unfolding checkedOf orOn
+checked-is g es ms n = let a = alives-are g es ms n in rw (a .gates, a .outs)
+
 -- ---- the whole
 
-module _ (s : ℕ) (hs ds ms : List ℕ) (es : List Edge) (n m : ℕ) (e : m ≡ n + length (edgesOf s n hs ds es .gates)) where
-  pub judge-parts : Splits (judgeGates s n hs ds ms es) (edgesOf s n hs ds es .gates) (acceptOf m ms (edgesOf s n hs ds es .condemned) .gates)
-  unfolding judgeGates acceptAfter
+module _ (checked : Bool) (s : ℕ) (hs ds ms : List ℕ) (es : List Edge) (n m : ℕ) (e : m ≡ n + length (edgesOf s n hs ds es .gates)) where
+  pub judge-parts : Splits (judgeGates checked s n hs ds ms es) (edgesOf s n hs ds es .gates) (endsOf checked m ms (edgesOf s n hs ds es .happy) (edgesOf s n hs ds es .condemned) .gates)
+  unfolding judgeGates endsAfter
   judge-parts = record { is = rw e }
 
-  pub judge-accept : acceptAfter s n hs ds ms es ≡ acceptOf m ms (edgesOf s n hs ds es .condemned)
-  unfolding acceptAfter
-  judge-accept = rw e
+  pub judge-ends : endsAfter checked s n hs ds ms es ≡ endsOf checked m ms (edgesOf s n hs ds es .happy) (edgesOf s n hs ds es .condemned)
+  unfolding endsAfter
+  judge-ends = rw e
 
-module _ (s vertices : ℕ) (es : List Edge) (l f n : ℕ) {ts : List ℕ} {edges : ℕ} (et : ts ≡ targets es) (ee : edges ≡ length es) (e : n ≡ f + length (gatherGates ts vertices edges l f)) where
-  pub monitor-parts : Splits (monitorGates s vertices es l f) (gatherGates ts vertices edges l f)
-      (judgeGates s n (gatherOf ts vertices edges l f .happy) (gatherOf ts vertices edges l f .condemned) (marks es) es)
+module _ (checked : Bool) (s vertices : ℕ) (es : List Edge) (l f n : ℕ) {ts : List ℕ} {edges : ℕ} (et : ts ≡ targets es) (ee : edges ≡ length es) (e : n ≡ f + length (gatherGates ts vertices edges l f)) where
+  pub monitor-parts : Splits (monitorGates checked s vertices es l f) (gatherGates ts vertices edges l f)
+      (judgeGates checked s n (gatherOf ts vertices edges l f .happy) (gatherOf ts vertices edges l f .condemned) (marks es) es)
   unfolding monitorGates
   monitor-parts = record { is = rw (e, et, ee) }
 
-  pub monitor-made : {before out out2 : List ℕ} {next literal : ℕ} {hs ds : List ℕ} → Added f before out f n (gatherGates ts vertices edges l f) →
-      JudgeMade f out out2 n next literal hs ds s (gatherOf ts vertices edges l f .happy) (gatherOf ts vertices edges l f .condemned) (marks es) es →
-      MonitorMade f before out2 next literal hs ds s vertices es l
-  unfolding monitorAccept monitorEdges
+  pub monitor-made : {before out out2 : List ℕ} {r : Outputs} {hs ds : List ℕ} → Added f before out f n (gatherGates ts vertices edges l f) →
+      JudgeMade checked f out out2 n r hs ds s (gatherOf ts vertices edges l f .happy) (gatherOf ts vertices edges l f .condemned) (marks es) es →
+      MonitorMade checked f before out2 r hs ds s vertices es l
+  unfolding monitorEnds monitorEdges
   monitor-made g j =
       record {
         gates = whole-of monitor-parts g (j .gates);
-        accept = rw (e, et, ee) at (j .accept);
+        accepts = rw (e, et, ee) at (j .accepts);
+        seconds = rw (e, et, ee) at (j .seconds);
         happies = rw (e, et, ee) at (j .happies);
         condemneds = rw (e, et, ee) at (j .condemneds);
       }
@@ -205,20 +229,46 @@ module _ (g : Graph) where
       (rw (gathered-is .happy, gathered-is .condemned, gates-is) (sym (edges-chosen g s _ _ es _)))
       (edges-are s (gathered g .outs) es (f + length (masked g .gates) + length (gathered g .gates)))
 
-  accepted-is : accepted g ≡ acceptAfter s (f + length (gatherGates (targets cs) v (length cs) l f)) (gatherOf (targets cs) v (length cs) l f .happy) (gatherOf (targets cs) v (length cs) l f .condemned) (marks cs) cs
-  unfolding accepted acceptAfter monitorEdges
+  -- the gates in front of the edges', the edges, the variable behind their gates, and accept
+  abbrev before : List Gate
+  before = gatherGates (targets cs) v (length cs) l f
+
+  abbrev arcs : Gathers
+  arcs = monitorEdges s v cs l f
+
+  abbrev after : ℕ
+  after = f + length before + length (arcs .gates)
+
+  abbrev accept : Piece
+  accept = acceptOf after (marks cs) (arcs .condemned)
+
+  accepted-is : accepted g ≡ accept
+  unfolding accepted
   accepted-is = rw (gates-is, judged-is .gates, accept-is g es (judged g .outs) _, judged-is .condemned)
 
-  -- THE LOOPS STORE THE MONITOR
-  pub gates-are : gatesOf g ≡ monitorGates s v cs l f
-  unfolding gatesOf monitorGates judgeGates gatherGates monitorEdges
-  gates-are =
+  gates-of : gatesOf g ≡ before ++ (arcs .gates ++ accept .gates)
+  unfolding gatesOf gatherGates
+  gates-of =
       rw (masked-is, gathered-is .gates, judged-is .gates, accepted-is)
       (sym (append-assoc (maskGates l (2 * length cs)) (gatherOf (targets cs) v (length cs) l f .gates) _))
 
-  pub output-is : accepted g .out ≡ monitorAccept s v cs l f
-  unfolding monitorAccept
-  output-is = rw accepted-is
+  checked-piece : checkedPiece g ≡ checkedOf (after + length (accept .gates)) (marks cs) (arcs .happy) (arcs .condemned)
+  unfolding checkedPiece
+  checked-piece =
+      let n : f + length (gatesOf g) ≡ after + length (accept .gates) =
+      omega (arith, ap length gates-of, length-append before (arcs .gates ++ accept .gates), length-append (arcs .gates) (accept .gates)) in
+      rw (n, checked-is g es (judged g .outs) (after + length (accept .gates)), judged-is .happy, judged-is .condemned)
+
+  -- THE LOOPS STORE THE MONITOR
+  pub gates-are : (checked : Bool) → gatesWith checked g ≡ monitorGates checked s v cs l f
+  unfolding monitorGates judgeGates endsAfter monitorEdges endsOf
+  gates-are true = rw (gates-of, checked-piece, append-assoc before (arcs .gates ++ accept .gates) _, append-assoc (arcs .gates) (accept .gates) _)
+  gates-are false = gates-of
+
+  pub outputs-are : (checked : Bool) → outputsWith checked g ≡ outputsOf checked (monitorEnds checked s v cs l f .accept) (monitorEnds checked s v cs l f .second)
+  unfolding monitorEnds endsAfter monitorEdges endsOf
+  outputs-are true = rw (accepted-is, checked-piece)
+  outputs-are false = rw accepted-is
 
   pub latches-are : edgeLatches (judged g .outs) ≡ edgePairs (monitorEdges s v cs l f .happy) (monitorEdges s v cs l f .condemned)
   latches-are = pairs-are (judged g .outs) ∙ rw (judged-is .happy, judged-is .condemned)

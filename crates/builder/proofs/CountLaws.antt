@@ -28,7 +28,7 @@ use Rattle.graph.specs.declared.FoundName.{FoundName}
 use Rattle.graph.specs.Claims.{FormulaAt, FormulaSound, EdgeSound, Sound}
 use Rattle.graph.proofs.HeldLaws.{sound}
 use Rattle.graph.proofs.WordLaws.{found-narrow}
-use Rattle.circuit.specs.Count.{formulaGates, allFormulaGates, incoming, entered, terminals, gateFormula}
+use Rattle.circuit.specs.Count.{formulaGates, allFormulaGates, incoming, entered, terminals, gateFormula, gateFormulaWith}
 use Rattle.builder.specs.Private.Machine.{Bounded, summed, byteGates, wordGates, gatesAt, readGates, fieldGates, arcGates, goesTo, isReached, terminalAt, gatesBy}
 use Rattle.builder.proofs.FormulaLaws.{bit-is}
 
@@ -331,12 +331,12 @@ module _ (text : Bytes) {graph : Graph} (s : Sound text graph) where
   unfolding heldOf heldAs
   names-held = s .names-held
 
-  held-counted : gatesBy text (heldOf text graph) ≡ gateFormula graph
-  unfolding gatesBy gateFormula
-  held-counted =
+  held-counted : (checked : Bool) → gatesBy checked text (heldOf text graph) ≡ gateFormulaWith checked graph
+  unfolding gatesBy gateFormula gateFormulaWith
+  held-counted checked =
       let z : length (graph .vertices) - 0 ≡ length (graph .vertices) = omega arith in
       rw (edges-held, vertices-held, z, entered-is (length (graph .vertices) - 1) 1, entered-is (length (graph .vertices)) 0, terminals-is, names-held, formulas-is)
 
--- THE LAW: the gates counted by the arrays of an accepted text are those of the formula
-pub counted : (text : Bytes) {g : CheckedGraph} (graph : Graph) → graphOf text ≡ accepted graph → g ≡ heldOf text graph → gatesBy text g ≡ gateFormula graph
-counted text graph h e = rw e (held-counted text (sound text h))
+-- THE LAW: the gates counted by the arrays of an accepted text are those of the formula, with checked or without
+pub counted : (checked : Bool) (text : Bytes) {g : CheckedGraph} (graph : Graph) → graphOf text ≡ accepted graph → g ≡ heldOf text graph → gatesBy checked text g ≡ gateFormulaWith checked graph
+counted checked text graph h e = rw e (held-counted text (sound text h) checked)

@@ -130,7 +130,7 @@ withMark b e =
       consequentText = e .consequentText;
     }
 
--- edges of g, marked where they are terminal: no piece but accept sees it
+-- edges of g, marked where they are terminal: no piece but accept and checked sees it
 module _ (g : Graph) where
   abbrev pub choose : Edge → Edge
   choose e = withMark (isTerminal g e) e

@@ -1,8 +1,10 @@
--- Header, latches and output stored one after another stand in front of the gates. Assumes nothing.
+-- Header, latches and outputs stored one after another stand in front of the gates. Assumes nothing.
 use mathlib.Core.Path.{_≡_, refl, sym, ap, _∙_}
+use mathlib.Core.Bool.{Bool, true, false}
 use mathlib.Core.List.{List, [], _∷_, _++_, append-assoc, append-nil}
 use Prim.Native.Nat.{ℕ, zero, suc, _+_, _-_, _*_, _≤_}
 use native.Mathlib.Nat.{zero-add}
+use native.Mathlib.Numerals.{add-one}
 use native.Mathlib.Omega.{arith}
 use lib.ListN.{length, take, drop, set, length-append, length-drop}
 use lib.Seq.{sets, sets-eq, drop-at, drop-drop, length-take-le, take-length, drop-length}
@@ -13,7 +15,8 @@ use Rattle.graph.specs.declared.CheckedGraph.{CheckedGraph}
 use Rattle.circuit.specs.Numbers.{constantLatches, operands}
 use Rattle.builder.specs.Private.Adding.{Room}
 use Rattle.builder.specs.Private.Edges.{edgesIn, edgeOf, edgesOf, GraphGood}
-use Rattle.builder.specs.Private.Monitor.{edgePairs, headerOf, frontOf, monitorGates, monitorEdges, MonitorMade, latchIn, gateIn, gatesIn, frontIn, numbersIn}
+use Rattle.builder.specs.Private.Monitor.{edgePairs, outputsOf, outputCount, headerOf, frontOf, monitorGates, monitorEdges, MonitorMade, latchIn, gateIn, gatesIn, frontIn, numbersIn}
+use Rattle.builder.specs.declared.Outputs.{Outputs}
 use Rattle.builder.proofs.AddingLaws.{words-length, kept}
 use Rattle.builder.proofs.EdgeLaws.{edges-count}
 
@@ -26,33 +29,54 @@ pairs-length [] ds h = refl
 pairs-length (x ∷ hs) [] h = absurd (omega arith)
 pairs-length (x ∷ hs) (y ∷ ds) h = omega (arith, pairs-length hs ds (omega arith))
 
-module _ (hs ds : List ℕ) (s k e a o : ℕ) (hl : length hs ≡ e) (dl : length ds ≡ e) where
-  pub front-length : length (frontOf s k e a hs ds o) ≡ 6 + 2 * k + 4 * e
+outputs-length : (checked : Bool) (o t : ℕ) → length (outputsOf checked o t) ≡ outputCount checked
+outputs-length true o t = refl
+outputs-length false o t = refl
+
+pub outputs-some : (checked : Bool) → 1 ≤ outputCount checked
+outputs-some true = omega arith
+outputs-some false = omega arith
+
+pub outputs-two : (checked : Bool) → checked ≡ true → outputCount checked ≡ 2
+outputs-two checked e = rw e
+
+-- the outputs stored one after another
+pub both-stored : (checked : Bool) (net : List ℕ) (q o t : ℕ) → checked ≡ true → set (set net q o) (q + 1) t ≡ sets net q (outputsOf checked o t)
+both-stored checked net q o t e = rw (e, add-one q)
+
+pub one-stored : (checked : Bool) (net : List ℕ) (q o t : ℕ) → checked ≡ false → set net q o ≡ sets net q (outputsOf checked o t)
+one-stored checked net q o t e = rw e
+
+module _ (checked : Bool) (hs ds : List ℕ) (s k e a o t : ℕ) (hl : length hs ≡ e) (dl : length ds ≡ e) where
+  pub front-length : length (frontOf checked s k e a hs ds o t) ≡ 5 + outputCount checked + 2 * k + 4 * e
   unfolding frontOf
   front-length =
       omega (
         arith,
-        length-append (constantLatches (2 + s) k) (edgePairs hs ds ++ (o ∷ [])),
-        length-append (edgePairs hs ds) (o ∷ []),
+        length-append (constantLatches (2 + s) k) (edgePairs hs ds ++ outputsOf checked o t),
+        length-append (edgePairs hs ds) (outputsOf checked o t),
+        outputs-length checked o t,
         constants-length k (2 + s),
         pairs-length hs ds (dl ∙ sym hl),
       )
 
   -- stored one after another
   pub front-all : (net : List ℕ) (p q : ℕ) → p ≡ 5 + 2 * k → q ≡ p + 4 * e →
-      set (sets (sets (sets net 0 (headerOf (1 + s) (k + 2 * e) a)) 5 (constantLatches (2 + s) k)) p (edgePairs hs ds)) q o ≡ sets net 0 (frontOf s k e a hs ds o)
+      sets (sets (sets (sets net 0 (headerOf (1 + s) (k + 2 * e) (outputCount checked) a)) 5 (constantLatches (2 + s) k)) p (edgePairs hs ds)) q (outputsOf checked o t)
+      ≡ sets net 0 (frontOf checked s k e a hs ds o t)
   unfolding frontOf
   front-all net p q ep eq =
-      let H = headerOf (1 + s) (k + 2 * e) a in
+      let H = headerOf (1 + s) (k + 2 * e) (outputCount checked) a in
       let C = constantLatches (2 + s) k in
       let L = edgePairs hs ds in
+      let O = outputsOf checked o t in
       let c : p ≡ 5 + length C = omega (arith, constants-length k (2 + s)) in
       let d : q ≡ p + length L = omega (arith, pairs-length hs ds (dl ∙ sym hl)) in
-      ap (λ (i : ℕ). sets (sets (sets (sets net 0 H) 5 C) p L) i (o ∷ [])) d
-      ∙ sets-append L (o ∷ []) (sets (sets net 0 H) 5 C) p
-      ∙ ap (λ (i : ℕ). sets (sets (sets net 0 H) 5 C) i (L ++ (o ∷ []))) c
-      ∙ sets-append C (L ++ (o ∷ [])) (sets net 0 H) 5
-      ∙ sets-append H (C ++ (L ++ (o ∷ []))) net 0
+      ap (λ (i : ℕ). sets (sets (sets (sets net 0 H) 5 C) p L) i O) d
+      ∙ sets-append L O (sets (sets net 0 H) 5 C) p
+      ∙ ap (λ (i : ℕ). sets (sets (sets net 0 H) 5 C) i (L ++ O)) c
+      ∙ sets-append C (L ++ O) (sets net 0 H) 5
+      ∙ sets-append H (C ++ (L ++ O)) net 0
 
 -- ---- the front and the gates
 at-front : (vs l : List ℕ) → length vs ≤ length l → sets l 0 vs ≡ vs ++ drop (length vs) l
@@ -85,29 +109,29 @@ unfolding monitorEdges
 monitor-outs s v es l f = outs-length s _ _ es _
 
 -- the gates that were made, by the variables
-pub made : (text : Bytes) (g : CheckedGraph) {before part hs ds : List ℕ} {f next literal gates : ℕ} → f ≡ gateIn g →
-    MonitorMade (gateIn g) before part next literal hs ds (g .signals) (g .vertices) (edgesIn text g) (latchIn g) → gates ≡ next - f → gates ≡ length (gatesIn text g)
+pub made : (checked : Bool) (text : Bytes) (g : CheckedGraph) {before part hs ds : List ℕ} {f gates : ℕ} {r : Outputs} → f ≡ gateIn g →
+    MonitorMade checked (gateIn g) before part r hs ds (g .signals) (g .vertices) (edgesIn text g) (latchIn g) → gates ≡ r .next .0 - f → gates ≡ length (gatesIn checked text g)
 unfolding gatesIn
-made text g e m d = omega (arith, e, m .gates .count, d)
+made checked text g e m d = omega (arith, e, m .gates .count, d)
 
-module _ (text : Bytes) (g : CheckedGraph) (good : GraphGood text g) where
+module _ (checked : Bool) (text : Bytes) (g : CheckedGraph) (good : GraphGood text g) where
   abbrev base : ℕ
-  base = 6 + 2 * g .constants + 4 * g .edges
+  base = 5 + outputCount checked + 2 * g .constants + 4 * g .edges
 
-  front-in : length (frontIn text g) ≡ base
+  front-in : length (frontIn checked text g) ≡ base
   unfolding frontIn
   front-in =
       let n = edges-count text g (omega (arith, good .arcs, good .edges)) in
       let o = monitor-outs (g .signals) (g .vertices) (edgesIn text g) (latchIn g) (gateIn g) in
-      front-length _ _ (g .signals) (g .constants) (g .edges) (length (gatesIn text g)) _ (o .0 ∙ n) (o .1 ∙ n)
+      front-length checked _ _ (g .signals) (g .constants) (g .edges) (length (gatesIn checked text g)) _ _ (o .0 ∙ n) (o .1 ∙ n)
 
-  pub numbers-length : length (numbersIn text g) ≡ base + 2 * length (gatesIn text g)
+  pub numbers-length : length (numbersIn checked text g) ≡ base + 2 * length (gatesIn checked text g)
   unfolding numbersIn
-  numbers-length = omega (arith, length-append (frontIn text g) (operands (gatesIn text g)), front-in, words-length (gatesIn text g))
+  numbers-length = omega (arith, length-append (frontIn checked text g) (operands (gatesIn checked text g)), front-in, words-length (gatesIn checked text g))
 
-  module _ (net : List ℕ) (long : length (numbersIn text g) ≤ length net) where
-    pub room : (1 + g .signals) + (g .constants + 2 * g .edges) + length (gatesIn text g) ≤ 4095 →
-        Room (gateIn g) (take (length net - base) (drop base net)) (gateIn g) (length (monitorGates (g .signals) (g .vertices) (edgesIn text g) (latchIn g) (gateIn g)))
+  module _ (net : List ℕ) (long : length (numbersIn checked text g) ≤ length net) where
+    pub room : (1 + g .signals) + (g .constants + 2 * g .edges) + length (gatesIn checked text g) ≤ 4095 →
+        Room (gateIn g) (take (length net - base) (drop base net)) (gateIn g) (length (monitorGates checked (g .signals) (g .vertices) (edgesIn text g) (latchIn g) (gateIn g)))
     unfolding gatesIn
     room few =
         record {
@@ -115,18 +139,18 @@ module _ (text : Bytes) (g : CheckedGraph) (good : GraphGood text g) where
           few = omega arith;
         }
 
-    pub still : {part hs ds : List ℕ} {next literal : ℕ} →
-        MonitorMade (gateIn g) (take (length net - base) (drop base net)) part next literal hs ds (g .signals) (g .vertices) (edgesIn text g) (latchIn g) →
+    pub still : {part hs ds : List ℕ} {r : Outputs} →
+        MonitorMade checked (gateIn g) (take (length net - base) (drop base net)) part r hs ds (g .signals) (g .vertices) (edgesIn text g) (latchIn g) →
         base ≤ length (putMid base (length net - base) net part)
     still {part} m = omega (arith, numbers-length, same-len-mid base (length net - base) net part (kept (m .gates)))
 
-    pub stored : {part hs ds : List ℕ} {next literal gates : ℕ} →
-        MonitorMade (gateIn g) (take (length net - base) (drop base net)) part next literal hs ds (g .signals) (g .vertices) (edgesIn text g) (latchIn g) →
-        gates ≡ length (gatesIn text g) →
-        sets (putMid base (length net - base) net part) 0 (frontOf (g .signals) (g .constants) (g .edges) gates hs ds literal)
-        ≡ numbersIn text g ++ drop (length (numbersIn text g)) net
+    pub stored : {part hs ds : List ℕ} {r : Outputs} {gates : ℕ} →
+        MonitorMade checked (gateIn g) (take (length net - base) (drop base net)) part r hs ds (g .signals) (g .vertices) (edgesIn text g) (latchIn g) →
+        gates ≡ length (gatesIn checked text g) →
+        sets (putMid base (length net - base) net part) 0 (frontOf checked (g .signals) (g .constants) (g .edges) gates hs ds (r .accept .0) (r .second .0))
+        ≡ numbersIn checked text g ++ drop (length (numbersIn checked text g)) net
     unfolding numbersIn frontIn gatesIn
     stored m c =
         let z : 2 * (gateIn g - gateIn g) ≡ 0 = omega arith in
-        rw (m .happies, m .condemneds, m .accept, c, m .gates .words, z)
-        (whole-part net (frontIn text g) (operands (gatesIn text g)) base front-in (omega (arith, numbers-length, words-length (gatesIn text g))))
+        rw (m .happies, m .condemneds, m .accepts, m .seconds, c, m .gates .words, z)
+        (whole-part net (frontIn checked text g) (operands (gatesIn checked text g)) base front-in (omega (arith, numbers-length, words-length (gatesIn checked text g))))

@@ -11,12 +11,12 @@ use lib.Seq.{drop-cons, getD-take, take-suc-set, drop-nil, sets, append-snoc}
 use lib.Dec.{eqb}
 use Rattle.netlist.specs.Literals.{literalOf}
 use Rattle.circuit.specs.Gates.{lit, inv, gate}
-use Rattle.circuit.specs.Build.{init}
+use Rattle.circuit.specs.Build.{Bits, init}
 use Rattle.circuit.specs.Numbers.{constantLatches}
-use Rattle.builder.specs.Private.Adding.{Going, Splits}
-use Rattle.builder.proofs.AddingLaws.{begin}
+use Rattle.builder.specs.Private.Adding.{Room, Going, Splits}
+use Rattle.builder.proofs.AddingLaws.{begin, room-first}
 use Rattle.builder.specs.Private.Monitor.{edgePairs}
-use Rattle.builder.specs.Private.Terms.{maskGates, everyOther, termsOf, orOn, stepOr, vertexOf, vertexHappy, vertexCondemned, verticesOf}
+use Rattle.builder.specs.Private.Terms.{maskGates, everyOther, termsOf, orOn, stepOr, vertexOf, vertexHappy, vertexCondemned, verticesOf, acceptOf, aliveOf, alivesOf, checkedOf, endsOf}
 
 -- a counted piece
 pub mask-step : (l i count : ℕ) → i < count → Splits (maskGates (l + i) (count - i)) (gate (lit (l + i)) (literalOf init true) ∷ []) (maskGates (l + (i + 1)) (count - (i + 1)))
@@ -170,3 +170,48 @@ module _ (v : ℕ) (keys lits : List ℕ) (count : ℕ) (hk : count ≤ length k
   or-turn i h some n so next more lit e1 e2 e3 =
       let t = turn (eqb (getD keys i 0) v) some n so (getD lits i 0) (left (i + 1)) in
       (record { is = rw (left-step i h, e1, e2, e3) (t .0) }, rw (left-step i h, e1, e2, e3) (t .1))
+
+-- ---- alive, where the key tells
+pub not-alive : (hit : Bool) (n h d : ℕ) → hit ≡ false → aliveOf hit n h d ≡ record { gates = []; out = literalOf 0 false }
+unfolding aliveOf
+not-alive hit n h d e = rw (e, aliveOf)
+
+pub is-alive : (hit : Bool) (n h d : ℕ) → hit ≡ true → aliveOf hit n h d ≡ record { gates = gate (inv d) (inv h) ∷ []; out = literalOf n true }
+unfolding aliveOf
+is-alive hit n h d e = rw (e, aliveOf)
+
+-- at the i-th key and literals of the arrays
+module _ (keys hs ds : List ℕ) (count : ℕ) (hk : count ≤ length keys) (hh : count ≤ length hs) (hd : count ≤ length ds) where
+  abbrev pub aliveFrom : ℕ → ℕ → Bits
+  aliveFrom n i = alivesOf n (drop i (take count keys)) (drop i (take count hs)) (drop i (take count ds))
+
+  pub alive-turn : (i : ℕ) → i < count → (n next : ℕ) → let p = aliveOf (eqb (getD keys i 0) 1) n (getD hs i 0) (getD ds i 0) in
+      next ≡ n + length (p .gates) → Splits (aliveFrom n i .gates) (p .gates) (aliveFrom next (i + 1) .gates) × (aliveFrom n i .outs ≡ p .out ∷ aliveFrom next (i + 1) .outs)
+  alive-turn i h n next e = rw (row keys i count h hk, row hs i count h hh, row ds i count h hd, e) (record { is = refl }, refl)
+
+  pub alive-end : (i n : ℕ) → count ≤ i → (aliveFrom n i .gates ≡ []) × (aliveFrom n i .outs ≡ [])
+  alive-end i n h = rw (drop-past keys count i h) (refl, refl)
+
+-- ---- the outputs
+module _ (n : ℕ) (marks hs ds : List ℕ) where
+  -- first all alive, and then the chain; `next` is the variable behind the former
+  pub checked-parts : (next : ℕ) → let a = alivesOf n marks hs ds in next ≡ n + length (a .gates) →
+      let j = orOn false next (lit init) (termsOf 1 marks (a .outs)) in Splits (checkedOf n marks hs ds .gates) (a .gates) (j .gates) × (checkedOf n marks hs ds .out ≡ j .out)
+  unfolding checkedOf
+  checked-parts next e = rw e (record { is = refl }, refl)
+
+  pub ends-without : (checked : Bool) → checked ≡ false → endsOf checked n marks hs ds ≡ record { gates = acceptOf n marks ds .gates; accept = acceptOf n marks ds .out; second = literalOf 0 false }
+  unfolding endsOf
+  ends-without checked e = rw (e, endsOf)
+
+  -- first accept, and then checked
+  pub ends-with : (checked : Bool) (next : ℕ) → checked ≡ true → let a = acceptOf n marks ds in next ≡ n + length (a .gates) →
+      let c = checkedOf next marks hs ds in
+      let e = endsOf checked n marks hs ds in Splits (e .gates) (a .gates) (c .gates) × (e .accept ≡ a .out) × (e .second ≡ c .out)
+  unfolding endsOf
+  ends-with checked next e k = rw (e, k, endsOf) (record { is = refl }, refl, refl)
+
+  pub room-accept : (checked : Bool) {f : ℕ} {out : List ℕ} → Room f out n (length (endsOf checked n marks hs ds .gates)) → Room f out n (length (acceptOf n marks ds .gates))
+  unfolding endsOf
+  room-accept true r = room-first (ends-with true _ refl refl .0) r
+  room-accept false r = r

@@ -1,7 +1,7 @@
--- Build: graph text to the monitor's numbers. Refused as the graph text is; then with 11 where M would pass
--- 4,095; then with 12 where the buffer is too short; else the numbers stand first in the buffer, which keeps
--- its surplus, and the number of gates made is answered. Assumes nothing.
-use mathlib.Core.Bool.{cond, not}
+-- Build: graph text to the monitor's numbers, with the second output checked or without. Refused as the graph text is;
+-- then with 11 where M would pass 4,095; then with 12 where the buffer is too short; else the numbers stand first in the
+-- buffer, which keeps its surplus, and the number of gates made is answered. Assumes nothing.
+use mathlib.Core.Bool.{Bool, cond, not}
 use mathlib.Core.List.{List, _++_}
 use Prim.Native.Nat.{ℕ, _+_, _*_}
 use lib.Dec.{leb}
@@ -10,8 +10,8 @@ use Rattle.text.specs.declared.Refusal.{Refusal}
 use Rattle.assertion.specs.Graph.{Bytes, Graph, signalBits, constantBits}
 use Rattle.graph.specs.Reading as reading
 use Rattle.graph.specs.Reading.{Outcome, refused, accepted, graphOf}
-use Rattle.circuit.specs.Build.{gatesOf}
-use Rattle.circuit.specs.Numbers.{numbersOf}
+use Rattle.circuit.specs.Checked.{gatesWith}
+use Rattle.circuit.specs.Numbers.{numbersWith}
 use Rattle.builder.specs.declared.Cause.{Cause}
 use Rattle.builder.specs.declared.Cause.the-variants.{GraphText, TooManyVariables, ShortBuffer}
 use Rattle.builder.specs.declared.Built.{Built}
@@ -24,8 +24,8 @@ refusalOf TooManyVariables = record { number = 11; line = 0 }
 refusalOf ShortBuffer = record { number = 12; line = 0 }
 
 -- M = I + L + A of the monitor of a graph
-unfoldable pub variablesOf : Graph → ℕ
-variablesOf g = (1 + signalBits g) + (constantBits g + 2 * length (g .edges)) + length (gatesOf g)
+unfoldable pub variablesOf : Bool → Graph → ℕ
+variablesOf checked g = (1 + signalBits g) + (constantBits g + 2 * length (g .edges)) + length (gatesWith checked g)
 
 -- what a build answers, and what it leaves
 pub record BuildEnd : Type 0 where
@@ -35,12 +35,14 @@ pub record BuildEnd : Type 0 where
 abbrev pub buildEnd : Built → List ℕ → BuildEnd
 buildEnd r n = record { answer = r; net = n }
 
-unfoldable pub buildAs : Outcome → List ℕ → BuildEnd
-buildAs (refused cause) net = buildEnd (Refused (GraphText cause)) net
-buildAs (accepted g) net =
-    cond (not (leb (variablesOf g) 4095)) (buildEnd (Refused TooManyVariables) net)
-    (cond (not (leb (length (numbersOf g)) (length net))) (buildEnd (Refused ShortBuffer) net)
-    (buildEnd (Gates (length (gatesOf g))) (numbersOf g ++ drop (length (numbersOf g)) net)))
+unfoldable pub buildAs : Bool → Outcome → List ℕ → BuildEnd
+buildAs checked (refused cause) net = buildEnd (Refused (GraphText cause)) net
+buildAs checked (accepted g) net =
+    let n = numbersWith checked g in
+    cond (not (leb (variablesOf checked g) 4095)) (buildEnd (Refused TooManyVariables) net)
+    (cond (not (leb (length n) (length net))) (buildEnd (Refused ShortBuffer) net)
+    (buildEnd (Gates (length (gatesWith checked g))) (n ++ drop (length n) net)))
 
-unfoldable pub buildOf : Bytes → List ℕ → BuildEnd
-buildOf text net = buildAs (graphOf text) net
+-- "Build is told whether to add it"
+unfoldable pub buildOf : Bool → Bytes → List ℕ → BuildEnd
+buildOf checked text net = buildAs checked (graphOf text) net

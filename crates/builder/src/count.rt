@@ -1,12 +1,13 @@
-// How many gates the monitor of a checked graph has, by document 01's formula; no gate is made.
+// How many gates the monitor of a checked graph has, by the formula; no gate is made.
 ghost use mathlib.Core.Path.{_≡_};
+ghost use mathlib.Core.Bool.{cond};
 ghost use Prim.Native.Nat.{_+_, _-_, _*_, _≤_};
 ghost use lib.ListN.{length};
 ghost use Rattle.assertion.specs.Graph.{Graph};
 ghost use Rattle.graph.specs.Reading.{accepted, graphOf};
 ghost use Rattle.graph.specs.Held.{heldOf};
 ghost use Rattle.graph.specs.Private.Steps.{listed, Kept};
-ghost use Rattle.circuit.specs.Count.{gateFormula};
+ghost use Rattle.circuit.specs.Count.{gateFormulaWith};
 ghost use Rattle.builder.specs.Private.Machine.{Bounded, summed, byteGates, wordGates, gatesAt, fieldGates, arcGates, isReached, terminalAt, reachedFrom};
 use crate::formulas::ALIKE;
 use crate::formulas::AND;
@@ -170,15 +171,24 @@ fn less(a: usize, b: usize) -> usize
     if b <= a { a - b } else { 0 }
 }
 
+// How many gates checked adds for so many terminal edges, where it is asked for: 2T − 1, none for none.
+fn checked_gates(checked: bool, terminal: usize) -> usize
+    requires { ⌜ terminal ≤ 128 ⌝ }
+    ensures { λ r. ⌜ (r ≡ cond checked (2 * terminal - 1) 0) × (r ≤ 255) ⌝ }
+{
+    if checked { less(2 * terminal, 1) } else { 0 }
+}
+
 // How many gates the monitor of a checked graph has.
-pub(crate) fn gate_count(text: &[u8], g: CheckedGraph) -> usize
+pub(crate) fn gate_count(text: &[u8], g: CheckedGraph, checked: bool) -> usize
     requires { ⌜ Bounded (listed (now text) (g .names) (g .named)) × Kept g ⌝ }
-    ensures { λ r. ⌜ ((graph : Graph) → graphOf (now (text .entry)) ≡ accepted graph → g ≡ heldOf (now (text .entry)) graph → r ≡ gateFormula graph) ⌝ }
+    ensures { λ r. ⌜ ((graph : Graph) → graphOf (now (text .entry)) ≡ accepted graph → g ≡ heldOf (now (text .entry)) graph → r ≡ gateFormulaWith checked graph) ⌝ }
 {
     let edges = g.edges;
     let later = less(edges, entered(g, 1));
     let all = less(edges, entered(g, 0));
-    let ends = less(terminals(g), 1);
+    let terminal = terminals(g);
+    let ends = less(terminal, 1);
     let formulas = formulas_gates(text, g);
-    7 * edges + later + all + ends + formulas
+    7 * edges + later + all + ends + formulas + checked_gates(checked, terminal)
 }

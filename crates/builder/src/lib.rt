@@ -5,6 +5,8 @@
 use count::gate_count;
 use graph::CheckedGraph;
 use graph::ReadOutcome;
+use layout::HEADER;
+use layout::output_count;
 use layout::put_numbers;
 use netlist::Literal;
 use netlist::Variable;
@@ -17,6 +19,7 @@ ghost use Rattle.builder.specs.Claims.{BuildMeans};
 ghost use Rattle.builder.specs.Private.Edges.{Accepted};
 
 mod chains;
+mod checked;
 mod columns;
 mod count;
 mod edges;
@@ -69,6 +72,13 @@ struct Both {
     condemned: Literal,
 }
 
+// The output literals, and the next variable after all gates; `second` is 0 where checked is not asked for.
+struct Outputs {
+    next: Variable,
+    accept: Literal,
+    second: Literal,
+}
+
 impl Cause {
     // The number and line in which a refusal is reported.
     pub fn refusal(self) -> Refusal
@@ -89,32 +99,32 @@ impl Cause {
 }
 
 // The monitor of an accepted text.
-fn build_checked(net: &mut [u16], text: &[u8], g: CheckedGraph) -> Built
+fn build_monitor(net: &mut [u16], text: &[u8], g: CheckedGraph, checked: bool) -> Built
     requires { ⌜ Accepted (now text) g ⌝ }
-    ensures { λ r. ⌜ ((graph : Graph) → graphOf (now (text .entry)) ≡ accepted graph → buildEnd r (now (net .exit)) ≡ buildAs (accepted graph) (now (net .entry))) ⌝ }
+    ensures { λ r. ⌜ ((graph : Graph) → graphOf (now (text .entry)) ≡ accepted graph → buildEnd r (now (net .exit)) ≡ buildAs checked (accepted graph) (now (net .entry))) ⌝ }
 {
-    let gates = gate_count(text, g);
+    let gates = gate_count(text, g, checked);
     let latches = g.constants + 2 * g.edges;
     let inputs = 1 + g.signals;
     if MOST_VARIABLES - (inputs + latches) < gates {
         return Built::Refused(Cause::TooManyVariables);
     }
-    if net.len() < 6 + 2 * latches + 2 * gates {
+    if net.len() < HEADER + output_count(checked) + 2 * latches + 2 * gates {
         return Built::Refused(Cause::ShortBuffer);
     }
-    let made = put_numbers(net, text, g);
+    let made = put_numbers(net, text, g, checked);
     Built::Gates(made)
 }
 
-// Builds the monitor of a graph text: its numbers stand first in the buffer.
-pub fn build(graph: &[u8], net: &mut [u16]) -> Built
-    ensures { λ r. ⌜ buildEnd r (now (net .exit)) ≡ buildOf (now (graph .entry)) (now (net .entry)) ⌝ }
-    ensures demand { λ _. ⌜ BuildMeans (now (graph .entry)) (now (net .entry)) ⌝ }
+// Builds the monitor of a graph text, with the second output checked or without: its numbers stand first in the buffer.
+pub fn build(graph: &[u8], checked: bool, net: &mut [u16]) -> Built
+    ensures { λ r. ⌜ buildEnd r (now (net .exit)) ≡ buildOf checked (now (graph .entry)) (now (net .entry)) ⌝ }
+    ensures demand { λ _. ⌜ BuildMeans checked (now (graph .entry)) (now (net .entry)) ⌝ }
 {
     let read = graph::read_graph(graph);
     let outcome = read.outcome;
     match outcome {
         ReadOutcome::Refused(cause) => Built::Refused(Cause::GraphText(cause)),
-        ReadOutcome::Checked => build_checked(net, graph, read.graph),
+        ReadOutcome::Checked => build_monitor(net, graph, read.graph, checked),
     }
 }

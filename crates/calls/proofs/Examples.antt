@@ -8,7 +8,7 @@ use Rattle.netlist.specs.Lanes.{each}
 use Rattle.netlist.specs.Valid.{headerOk, isWithin, isFree, latchOk, freeCount, outputOk, gateOk, isNetlist}
 use Rattle.trace.specs.Traces.{isBit, isCycle, fitsLine, faultFrom, faultOf, lineCount}
 use Rattle.calls.specs.declared.refusal.Cause.the-variants.{ShortBuffer, WrongLine, NotNetlist, FullTally}
-use Rattle.calls.specs.declared.refusal.Checked.the-variants.{Passed, Failed}
+use Rattle.calls.specs.declared.refusal.Tested.the-variants.{Passed, Failed}
 use Rattle.calls.specs.declared.tally.Tally.{Tally}
 use Rattle.calls.specs.Tallies.{hasRoom}
 use Rattle.calls.specs.Refusals.{isShort, hasLatches, hasValues, startCheck, stepCheck, runCheck}
@@ -16,6 +16,13 @@ use Rattle.calls.specs.Refusals.{isShort, hasLatches, hasValues, startCh
 -- one input, no latch
 abbrev plain : List ℕ
 plain = 1 ∷ 1 ∷ 0 ∷ 1 ∷ 0 ∷ 1 ∷ []
+
+-- the same with a second output, and with a third
+abbrev twice : List ℕ
+twice = 1 ∷ 1 ∷ 0 ∷ 2 ∷ 0 ∷ 1 ∷ 2 ∷ []
+
+abbrev thrice : List ℕ
+thrice = 1 ∷ 1 ∷ 0 ∷ 3 ∷ 0 ∷ 1 ∷ 2 ∷ 2 ∷ []
 
 -- one input and one latch, whose value is the output
 abbrev latched : List ℕ
@@ -25,11 +32,11 @@ latched = 2 ∷ 1 ∷ 1 ∷ 1 ∷ 0 ∷ 2 ∷ 0 ∷ 4 ∷ []
 abbrev broken : List ℕ
 broken = 2 ∷ 1 ∷ 1 ∷ 1 ∷ 0 ∷ 2 ∷ 0 ∷ 6 ∷ []
 
-abbrev tally : ℕ → ℕ → Tally
-tally c r = record { cycles = c; rejected = r }
+abbrev tally : ℕ → ℕ → ℕ → Tally
+tally c r d = record { cycles = c; rejected = r; checked = d }
 
 abbrev full : Tally
-full = tally 4294967295 0
+full = tally 4294967295 0 0
 
 -- ---- start
 -- 16 before 12
@@ -49,6 +56,15 @@ start-passes = refl
 start-no-latch : startCheck plain 0 ≡ Passed
 unfolding startCheck hasLatches isNetlist headerOk outputOk latchOk gateOk isWithin isFree freeCount each literalOf
 start-no-latch = refl
+
+-- a netlist has one output or two
+start-two-outputs : startCheck twice 0 ≡ Passed
+unfolding startCheck hasLatches isNetlist headerOk outputOk latchOk gateOk isWithin isFree freeCount each literalOf
+start-two-outputs = refl
+
+start-16-outputs : startCheck thrice 0 ≡ Failed NotNetlist
+unfolding startCheck hasLatches isNetlist headerOk outputOk latchOk gateOk isWithin isFree freeCount each literalOf
+start-16-outputs = refl
 
 -- ---- step
 -- 16 before 15
@@ -75,17 +91,21 @@ step-12-17-values : stepCheck latched (49 ∷ []) 1 2 full ≡ Failed ShortBuffe
 unfolding stepCheck hasValues hasRoom isCycle isBit hasLatches isNetlist headerOk outputOk latchOk gateOk isWithin isFree freeCount each literalOf
 step-12-17-values = refl
 
--- 17 where either number of the tally is full
+-- 17 where any number of the tally is full, the third too where there is one output
 step-17 : stepCheck latched (49 ∷ []) 1 3 full ≡ Failed FullTally
 unfolding stepCheck hasValues hasRoom isCycle isBit hasLatches isNetlist headerOk outputOk latchOk gateOk isWithin isFree freeCount each literalOf
 step-17 = refl
 
-step-17-rejected : stepCheck plain (48 ∷ []) 0 2 (tally 0 4294967295) ≡ Failed FullTally
+step-17-rejected : stepCheck plain (48 ∷ []) 0 2 (tally 0 4294967295 0) ≡ Failed FullTally
 unfolding stepCheck hasValues hasRoom isCycle isBit hasLatches isNetlist headerOk outputOk latchOk gateOk isWithin isFree freeCount each literalOf
 step-17-rejected = refl
 
+step-17-checked : stepCheck plain (48 ∷ []) 0 2 (tally 0 0 4294967295) ≡ Failed FullTally
+unfolding stepCheck hasValues hasRoom isCycle isBit hasLatches isNetlist headerOk outputOk latchOk gateOk isWithin isFree freeCount each literalOf
+step-17-checked = refl
+
 -- the last cycle for which there is room
-step-passes : stepCheck latched (49 ∷ []) 1 3 (tally 4294967294 4294967294) ≡ Passed
+step-passes : stepCheck latched (49 ∷ []) 1 3 (tally 4294967294 4294967294 4294967294) ≡ Passed
 unfolding stepCheck hasValues hasRoom isCycle isBit hasLatches isNetlist headerOk outputOk latchOk gateOk isWithin isFree freeCount each literalOf
 step-passes = refl
 
@@ -119,23 +139,31 @@ unfolding runCheck isShort hasValues hasRoom faultOf faultFrom fitsLine lineCoun
 run-12-17-verdicts = refl
 
 -- 17 where there is no room for all lines
-run-17 : runCheck latched (49 ∷ 10 ∷ 48 ∷ 10 ∷ []) 1 3 2 (tally 4294967294 0) ≡ Failed FullTally
+run-17 : runCheck latched (49 ∷ 10 ∷ 48 ∷ 10 ∷ []) 1 3 2 (tally 4294967294 0 0) ≡ Failed FullTally
 unfolding runCheck isShort hasValues hasRoom faultOf faultFrom fitsLine lineCount isBit hasLatches isNetlist headerOk outputOk latchOk gateOk isWithin isFree freeCount each literalOf
 run-17 = refl
 
-run-passes : runCheck latched (49 ∷ 10 ∷ 48 ∷ 10 ∷ []) 1 3 2 (tally 4294967293 0) ≡ Passed
+run-passes : runCheck latched (49 ∷ 10 ∷ 48 ∷ 10 ∷ []) 1 3 2 (tally 4294967293 0 0) ≡ Passed
 unfolding runCheck isShort hasValues hasRoom faultOf faultFrom fitsLine lineCount isBit hasLatches isNetlist headerOk outputOk latchOk gateOk isWithin isFree freeCount each literalOf
 run-passes = refl
 
-run-17-rejected : runCheck latched (49 ∷ 10 ∷ 48 ∷ 10 ∷ []) 1 3 2 (tally 0 4294967294) ≡ Failed FullTally
+run-17-rejected : runCheck latched (49 ∷ 10 ∷ 48 ∷ 10 ∷ []) 1 3 2 (tally 0 4294967294 0) ≡ Failed FullTally
 unfolding runCheck isShort hasValues hasRoom faultOf faultFrom fitsLine lineCount isBit hasLatches isNetlist headerOk outputOk latchOk gateOk isWithin isFree freeCount each literalOf
 run-17-rejected = refl
 
+run-17-checked : runCheck latched (49 ∷ 10 ∷ 48 ∷ 10 ∷ []) 1 3 2 (tally 0 0 4294967294) ≡ Failed FullTally
+unfolding runCheck isShort hasValues hasRoom faultOf faultFrom fitsLine lineCount isBit hasLatches isNetlist headerOk outputOk latchOk gateOk isWithin isFree freeCount each literalOf
+run-17-checked = refl
+
+run-passes-checked : runCheck latched (49 ∷ 10 ∷ []) 1 3 1 (tally 0 0 4294967294) ≡ Passed
+unfolding runCheck isShort hasValues hasRoom faultOf faultFrom fitsLine lineCount isBit hasLatches isNetlist headerOk outputOk latchOk gateOk isWithin isFree freeCount each literalOf
+run-passes-checked = refl
+
 -- the empty trace needs its value words, and no room
-run-empty-12 : runCheck plain [] 0 1 0 (tally 0 0) ≡ Failed ShortBuffer
+run-empty-12 : runCheck plain [] 0 1 0 (tally 0 0 0) ≡ Failed ShortBuffer
 unfolding runCheck isShort hasValues hasRoom faultOf faultFrom fitsLine lineCount isBit hasLatches isNetlist headerOk outputOk latchOk gateOk isWithin isFree freeCount each literalOf
 run-empty-12 = refl
 
-run-empty : runCheck plain [] 0 2 0 (tally 4294967295 4294967295) ≡ Passed
+run-empty : runCheck plain [] 0 2 0 (tally 4294967295 4294967295 4294967295) ≡ Passed
 unfolding runCheck isShort hasValues hasRoom faultOf faultFrom fitsLine lineCount isBit hasLatches isNetlist headerOk outputOk latchOk gateOk isWithin isFree freeCount each literalOf
 run-empty = refl

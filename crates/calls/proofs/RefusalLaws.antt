@@ -1,4 +1,4 @@
--- Laws of the tests before a call: what holds where they all pass, and where a run is refused for its trace. Assumes nothing.
+-- Laws of the tests before a call: what holds where they all pass, and where a call is refused for its trace or its tally. Assumes nothing.
 use mathlib.Core.Path.{_≡_, refl, sym, ap, _∙_}
 use mathlib.Core.Bool.{Bool, true, false, cond, not, _&&_, true≢false}
 use mathlib.Core.List.{List}
@@ -12,15 +12,15 @@ use Rattle.netlist.specs.Valid.{isNetlist}
 use Rattle.netlist.proofs.EachLaws.{both}
 use Rattle.calls.specs.declared.refusal.Cause.{Cause}
 use Rattle.calls.specs.declared.refusal.Cause.the-variants.{TraceTooLong, ShortBuffer, WrongLine, NotNetlist, FullTally}
-use Rattle.calls.specs.declared.refusal.Checked.{Checked}
-use Rattle.calls.specs.declared.refusal.Checked.the-variants.{Passed, Failed}
+use Rattle.calls.specs.declared.refusal.Tested.{Tested}
+use Rattle.calls.specs.declared.refusal.Tested.the-variants.{Passed, Failed}
 use Rattle.calls.specs.declared.tally.Tally.{Tally}
 use Rattle.calls.specs.Tallies.{hasRoom}
 use Rattle.trace.specs.Traces.{isCycle, faultOf, lineCount}
-use Rattle.calls.specs.Refusals.{isShort, hasLatches, hasValues, startCheck, stepCheck, runCheck}
+use Rattle.calls.specs.Refusals.{refusalOf, isShort, hasLatches, hasValues, startCheck, stepCheck, runCheck}
 
 -- a test that passed, and those that follow it
-first : (a : Bool) (cause : Cause) (c : Checked) → cond (not a) (Failed cause) c ≡ Passed → (a ≡ true) × (c ≡ Passed)
+first : (a : Bool) (cause : Cause) (c : Tested) → cond (not a) (Failed cause) c ≡ Passed → (a ≡ true) × (c ≡ Passed)
 first true cause c e = (refl, e)
 first false cause c e = let z : _≡_ {A = ℕ} 0 1 = cc in absurd (omega arith)
 
@@ -38,7 +38,7 @@ pub record StartReady (net : List ℕ) (nl : ℕ) : Type 0 where
   pub netlist : isNetlist net ≡ true
   pub latches : latchCount net ≤ nl
 
-pub start-passed : (net : List ℕ) (nl : ℕ) (c : Checked) → c ≡ startCheck net nl → c ≡ Passed → StartReady net nl
+pub start-passed : (net : List ℕ) (nl : ℕ) (c : Tested) → c ≡ startCheck net nl → c ≡ Passed → StartReady net nl
 unfolding startCheck
 start-passed net nl c is e =
     let a = first (isNetlist net) NotNetlist _ (sym is ∙ e) in
@@ -54,9 +54,9 @@ pub record StepReady (net cycle : List ℕ) (nl nv : ℕ) (t : Tally) : Type 0 w
   pub room : hasRoom t 1 ≡ true
 
 module _ (net cycle : List ℕ) (nl nv : ℕ) (t : Tally) where
-  pub step-passed : (c : Checked) → c ≡ stepCheck net cycle nl nv t → c ≡ Passed → StepReady net cycle nl nv t
+  pub step-passed : (c : Tested) → c ≡ stepCheck net cycle nl nv t → c ≡ Passed → StepReady net cycle nl nv t
   unfolding stepCheck
-  step-passed checked is e =
+  step-passed tested is e =
       let a = first (isNetlist net) NotNetlist _ (sym is ∙ e) in
       let b = first (isCycle (inputCount net) cycle) (WrongLine 1) _ (a .1) in
       let c = first (hasLatches net nl && hasValues net nv) ShortBuffer _ (b .1) in
@@ -121,7 +121,7 @@ lineIn (WrongLine k) = suc k
 lineIn NotNetlist = 0
 lineIn FullTally = 0
 
-unfoldable toldBy : Checked → ℕ
+unfoldable toldBy : Tested → ℕ
 toldBy Passed = 0
 toldBy (Failed cause) = lineIn cause
 
@@ -156,3 +156,35 @@ module _ (net trace : List ℕ) (nl nv nb : ℕ) (t : Tally) where
   run-wrong-line k e =
       let lines = lineCount (inputCount net) trace in
       line-told (isShort trace) (isNetlist net) (hasLatches net nl && (hasValues net nv && leb lines nb)) (hasRoom t lines) (faultOf (inputCount net) trace) k e
+
+-- ---- a call refused for its tally
+-- a refusal with 17 is not from a test with another number
+later : (a : Bool) (cause : Cause) (c : Tested) → eqb (refusalOf cause .number) 17 ≡ false → cond (not a) (Failed cause) c ≡ Failed FullTally → c ≡ Failed FullTally
+unfolding refusalOf
+later true cause c n e = e
+later false cause c n e =
+    let s : cause ≡ FullTally = cc in
+    absurd (true≢false (sym (ap (λ (x : Cause). eqb (refusalOf x .number) 17) s) ∙ n))
+
+last : (a : Bool) → cond (not a) (Failed FullTally) Passed ≡ Failed FullTally → a ≡ false
+last true e = let z : _≡_ {A = ℕ} 0 1 = cc in absurd (omega arith)
+last false e = refl
+
+pub step-full : (net cycle : List ℕ) (nl nv : ℕ) (t : Tally) → stepCheck net cycle nl nv t ≡ Failed FullTally → hasRoom t 1 ≡ false
+unfolding stepCheck refusalOf
+step-full net cycle nl nv t e =
+    let a = later (isNetlist net) NotNetlist _ refl e in
+    let b = later (isCycle (inputCount net) cycle) (WrongLine 1) _ refl a in
+    let c = later (hasLatches net nl && hasValues net nv) ShortBuffer _ refl b in
+    last (hasRoom t 1) c
+
+pub run-full : (net trace : List ℕ) (nl nv nb : ℕ) (t : Tally) → runCheck net trace nl nv nb t ≡ Failed FullTally → hasRoom t (lineCount (inputCount net) trace) ≡ false
+unfolding runCheck refusalOf
+run-full net trace nl nv nb t e =
+    let fault = faultOf (inputCount net) trace in
+    let lines = lineCount (inputCount net) trace in
+    let a = later (isShort trace) TraceTooLong _ refl e in
+    let b = later (isNetlist net) NotNetlist _ refl a in
+    let c = later (eqb fault 0) (WrongLine fault) _ refl b in
+    let d = later (hasLatches net nl && (hasValues net nv && leb lines nb)) ShortBuffer _ refl c in
+    last (hasRoom t lines) d

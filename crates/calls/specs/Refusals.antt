@@ -10,8 +10,8 @@ use Rattle.netlist.specs.Layout.{maximum, inputCount, latchCount}
 use Rattle.netlist.specs.Valid.{isNetlist}
 use Rattle.calls.specs.declared.refusal.Cause.{Cause}
 use Rattle.calls.specs.declared.refusal.Cause.the-variants.{TraceTooLong, ShortBuffer, WrongLine, NotNetlist, FullTally}
-use Rattle.calls.specs.declared.refusal.Checked.{Checked}
-use Rattle.calls.specs.declared.refusal.Checked.the-variants.{Passed, Failed}
+use Rattle.calls.specs.declared.refusal.Tested.{Tested}
+use Rattle.calls.specs.declared.refusal.Tested.the-variants.{Passed, Failed}
 use Rattle.calls.specs.declared.tally.Tally.{Tally}
 use Rattle.calls.specs.Tallies.{hasRoom}
 use Rattle.trace.specs.Traces.{isCycle, faultOf, lineCount}
@@ -35,14 +35,14 @@ unfoldable pub hasValues : List ℕ → ℕ → Bool
 hasValues net nv = leb (maximum net + 1) nv
 
 -- ---- the tests of each call, in order
-unfoldable pub startCheck : List ℕ → ℕ → Checked
+unfoldable pub startCheck : List ℕ → ℕ → Tested
 startCheck net nl =
     cond (not (isNetlist net)) (Failed NotNetlist)
     (cond (not (hasLatches net nl)) (Failed ShortBuffer)
     Passed)
 
 -- a step's cycle is line 1
-unfoldable pub stepCheck : List ℕ → List ℕ → ℕ → ℕ → Tally → Checked
+unfoldable pub stepCheck : List ℕ → List ℕ → ℕ → ℕ → Tally → Tested
 stepCheck net cycle nl nv t =
     cond (not (isNetlist net)) (Failed NotNetlist)
     (cond (not (isCycle (inputCount net) cycle)) (Failed (WrongLine 1))
@@ -51,7 +51,7 @@ stepCheck net cycle nl nv t =
     Passed)))
 
 -- a run fills a verdict byte for each line, and its new cycles are the lines of its trace
-unfoldable pub runCheck : List ℕ → List ℕ → ℕ → ℕ → ℕ → Tally → Checked
+unfoldable pub runCheck : List ℕ → List ℕ → ℕ → ℕ → ℕ → Tally → Tested
 runCheck net trace nl nv nb t =
     let fault = faultOf (inputCount net) trace in
     let lines = lineCount (inputCount net) trace in

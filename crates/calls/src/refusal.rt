@@ -33,7 +33,7 @@ pub enum Cause {
 }
 
 // What the tests before a call say.
-pub enum Checked {
+pub enum Tested {
     Passed,
     Failed(Cause),
 }
@@ -63,16 +63,16 @@ impl Cause {
 }
 
 // The tests of a start, with this many latch words lent.
-pub fn start_check(net: &[u16], latches: usize) -> Checked
+pub fn start_check(net: &[u16], latches: usize) -> Tested
     ensures { λ r. ⌜ r ≡ startCheck (now (net .entry)) latches ⌝ }
 {
     if !is_netlist(net) {
-        return Checked::Failed(Cause::NotNetlist);
+        return Tested::Failed(Cause::NotNetlist);
     }
     if latches < header(net, LATCHES) {
-        return Checked::Failed(Cause::ShortBuffer);
+        return Tested::Failed(Cause::ShortBuffer);
     }
-    Checked::Passed
+    Tested::Passed
 }
 
 // Whether there is a latch word for each latch and a value word for each variable.
@@ -87,22 +87,22 @@ fn has_words(net: &[u16], latches: usize, values: usize) -> bool
 }
 
 // The tests of a step, with this many latch words and value words lent.
-pub fn step_check(net: &[u16], cycle: &[u8], latches: usize, values: usize, tally: Tally) -> Checked
+pub fn step_check(net: &[u16], cycle: &[u8], latches: usize, values: usize, tally: Tally) -> Tested
     ensures { λ r. ⌜ r ≡ stepCheck (now (net .entry)) (now (cycle .entry)) latches values tally ⌝ }
 {
     if !is_netlist(net) {
-        return Checked::Failed(Cause::NotNetlist);
+        return Tested::Failed(Cause::NotNetlist);
     }
     if !is_cycle(header(net, INPUTS), cycle) {
-        return Checked::Failed(Cause::WrongLine(1));
+        return Tested::Failed(Cause::WrongLine(1));
     }
     if !has_words(net, latches, values) {
-        return Checked::Failed(Cause::ShortBuffer);
+        return Tested::Failed(Cause::ShortBuffer);
     }
     if !has_room(tally, 1) {
-        return Checked::Failed(Cause::FullTally);
+        return Tested::Failed(Cause::FullTally);
     }
-    Checked::Passed
+    Tested::Passed
 }
 
 // The tests of a run whose trace is short enough, over a netlist.
@@ -113,7 +113,7 @@ fn lines_check(
     values: usize,
     verdicts: usize,
     tally: Tally,
-) -> Checked
+) -> Tested
     requires { ⌜ isNetlist (now net) ≡ true ⌝ }
     requires { ⌜ length (now trace) ≤ 1048576 ⌝ }
     ensures { λ r. ⌜ r ≡ runCheck (now (net .entry)) (now (trace .entry)) latches values verdicts tally ⌝ }
@@ -122,19 +122,19 @@ fn lines_check(
     let line = fault(trace, n);
     if line != 0 {
         let wrong = line as u32;
-        return Checked::Failed(Cause::WrongLine(wrong));
+        return Tested::Failed(Cause::WrongLine(wrong));
     }
     let lines = trace.len() / (n + 1);
     if !has_words(net, latches, values) {
-        return Checked::Failed(Cause::ShortBuffer);
+        return Tested::Failed(Cause::ShortBuffer);
     }
     if verdicts < lines {
-        return Checked::Failed(Cause::ShortBuffer);
+        return Tested::Failed(Cause::ShortBuffer);
     }
     if !has_room(tally, lines) {
-        return Checked::Failed(Cause::FullTally);
+        return Tested::Failed(Cause::FullTally);
     }
-    Checked::Passed
+    Tested::Passed
 }
 
 // The tests of a run, with this many latch words, value words and verdict bytes lent.
@@ -145,14 +145,14 @@ pub fn run_check(
     values: usize,
     verdicts: usize,
     tally: Tally,
-) -> Checked
+) -> Tested
     ensures { λ r. ⌜ r ≡ runCheck (now (net .entry)) (now (trace .entry)) latches values verdicts tally ⌝ }
 {
     if trace.len() > MAX_TRACE {
-        return Checked::Failed(Cause::TraceTooLong);
+        return Tested::Failed(Cause::TraceTooLong);
     }
     if !is_netlist(net) {
-        return Checked::Failed(Cause::NotNetlist);
+        return Tested::Failed(Cause::NotNetlist);
     }
     lines_check(net, trace, latches, values, verdicts, tally)
 }

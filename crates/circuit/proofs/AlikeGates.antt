@@ -1,17 +1,18 @@
 -- Where each gate of `==` stands, for every width: "3 gates a bit, bit 0 first, made as for `=`, then width − 1 more that join them in
 -- bit order". Assumes nothing.
-use Prim.Native.Nat.{ℕ, zero, suc, _+_, _-_, _*_, _<_, _≤_}
+use Prim.Native.Nat.{ℕ, zero, suc, _+_, _*_, _<_}
 use mathlib.Core.Path.{_≡_, refl, ap, ap₂, subst, _∙_}
-use mathlib.Core.List.{List, [], _∷_, _++_}
+use mathlib.Core.List.{List, _++_}
 use native.Mathlib.Omega.{arith}
 use lib.ListN.{length, getD, List·getD-append}
 use lib.Seq.{getD-append-add}
 use Rattle.assertion.specs.Graph.{Run, operators}
 use Rattle.circuit.specs.Gates.{lit, inv, Gate, gate, Piece}
-use Rattle.circuit.specs.Build.{andFrom, andAll, Bits, bitLiteral, sameBits, alikeOf, formula}
+use Rattle.circuit.specs.Build.{andAll, Bits, bitLiteral, sameBits, alikeOf, formula}
 use Rattle.circuit.specs.Count.{formulaGates}
 use Rattle.circuit.specs.Claims.{gateAt, sameAt, AlikeGates, AlikeMeans}
 use Rattle.circuit.proofs.Count.{bits-length, alike-length}
+use Rattle.circuit.proofs.Joins.{all-first, all-next, all-out, all-one, and-chain}
 
 -- ---- the gates of the bits
 module _ (s : ℕ) (a b : Run) where
@@ -37,36 +38,6 @@ module _ (s : ℕ) (a b : Run) where
   outs-at zero n i k l = absurd (omega arith)
   outs-at (suc w) n i zero l = ap (λ (x : ℕ). inv (lit x)) (omega arith)
   outs-at (suc w) n i (suc k) l = outs-at w (n + 3) (suc i) k (omega arith) ∙ ap (λ (x : ℕ). inv (lit x)) (omega arith)
-
--- ---- the joins
-from-next : (ts : List ℕ) (m so k : ℕ) → suc k < length ts → gateAt (andFrom m so ts .gates) (suc k) ≡ gate (lit (m + k)) (getD ts (suc k) 0)
-from-next [] m so k l = absurd (omega arith)
-from-next (t ∷ []) m so k l = absurd (omega arith)
-from-next (t ∷ u ∷ ts) m so zero l = ap (λ (x : ℕ). gate (lit x) u) (omega arith)
-from-next (t ∷ u ∷ ts) m so (suc k) l = from-next (u ∷ ts) (suc m) (lit m) k (omega arith) ∙ ap (λ (x : ℕ). gate (lit x) (getD (u ∷ ts) (suc k) 0)) (omega arith)
-
-from-out : (ts : List ℕ) (m so : ℕ) → 1 ≤ length ts → andFrom m so ts .out ≡ lit (m + (length ts - 1))
-from-out [] m so l = absurd (omega arith)
-from-out (t ∷ []) m so l = ap lit (omega arith)
-from-out (t ∷ u ∷ ts) m so l = from-out (u ∷ ts) (suc m) (lit m) (omega arith) ∙ ap lit (omega arith)
-
-all-first : (ls : List ℕ) (m : ℕ) → 2 ≤ length ls → gateAt (andAll m ls .gates) 0 ≡ gate (getD ls 0 0) (getD ls 1 0)
-all-first [] m l = absurd (omega arith)
-all-first (t ∷ []) m l = absurd (omega arith)
-all-first (t ∷ u ∷ ts) m l = refl
-
-all-next : (ls : List ℕ) (m j : ℕ) → suc (suc j) < length ls → gateAt (andAll m ls .gates) (suc j) ≡ gate (lit (m + j)) (getD ls (suc (suc j)) 0)
-all-next [] m j l = absurd (omega arith)
-all-next (t ∷ ts) m j l = from-next ts m t j (omega arith)
-
-all-out : (ls : List ℕ) (m : ℕ) → 2 ≤ length ls → andAll m ls .out ≡ lit (m + (length ls - 2))
-all-out [] m l = absurd (omega arith)
-all-out (t ∷ ts) m l = from-out ts m t (omega arith) ∙ ap lit (omega arith)
-
-all-one : (ls : List ℕ) (m : ℕ) → length ls ≡ 1 → andAll m ls .out ≡ getD ls 0 0
-all-one [] m l = absurd (omega arith)
-all-one (t ∷ []) m l = refl
-all-one (t ∷ u ∷ ts) m l = absurd (omega arith)
 
 -- ---- both
 module _ (s n : ℕ) (a b : Run) (w : ℕ) where
@@ -114,15 +85,15 @@ module _ (s n : ℕ) (a b : Run) (w : ℕ) where
             );
         first-join = λ l.
             subst (λ (x : ℕ). gateAt xs x ≡ gate (sameAt n 0) (sameAt n 1)) (omega arith) (
-            late 0 ∙ all-first (bits .outs) m (omega (arith, many .1)) ∙ ap₂ gate (out-at 0 (omega arith)) (out-at 1 (omega arith))
+            late 0 ∙ all-first gate lit andAll and-chain (bits .outs) m (omega (arith, many .1)) ∙ ap₂ gate (out-at 0 (omega arith)) (out-at 1 (omega arith))
             );
         next-join = λ j l.
             subst (λ (x : ℕ). gateAt xs (3 * w + x) ≡ gate (lit (n + 3 * w + j)) (sameAt n (j + 2))) (omega arith) (
-            late (suc j) ∙ all-next (bits .outs) m j (omega (arith, many .1))
+            late (suc j) ∙ all-next gate lit andAll and-chain (bits .outs) m j (omega (arith, many .1))
             ∙ ap₂ gate (ap lit (variable j)) (out-at (suc (suc j)) (omega arith) ∙ ap (sameAt n) (omega arith))
             );
-        last = λ l. all-out (bits .outs) m (omega (arith, many .1)) ∙ ap lit (omega (arith, many .0, many .1));
-        alone = λ e. all-one (bits .outs) m (many .1 ∙ e) ∙ out-at 0 (omega arith);
+        last = λ l. all-out gate lit andAll and-chain (bits .outs) m (omega (arith, many .1)) ∙ ap lit (omega (arith, many .0, many .1));
+        alone = λ e. all-one gate lit andAll and-chain (bits .outs) m (many .1 ∙ e) ∙ out-at 0 (omega arith);
       }
 
 -- THE LAW

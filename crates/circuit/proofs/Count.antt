@@ -78,11 +78,11 @@ or-from-length : (ts : List ℕ) (n so : ℕ) → length (orFrom n so ts .gates)
 or-from-length [] n so = refl
 or-from-length (t ∷ ts) n so = ap suc (or-from-length ts (suc n) (literalOf n true))
 
-or-length : (ts : List ℕ) (n : ℕ) → length (orAll n ts .gates) ≡ length ts - 1
+pub or-length : (ts : List ℕ) (n : ℕ) → length (orAll n ts .gates) ≡ length ts - 1
 or-length [] n = refl
 or-length (t ∷ ts) n = omega (arith, or-from-length ts n t)
 
-cond-length : (b : Bool) (t : ℕ) (ts : List ℕ) → length (cond b (t ∷ ts) ts) ≡ cond b 1 0 + length ts
+pub cond-length : {A : Type 0} (b : Bool) (t : A) (ts : List A) → length (cond b (t ∷ ts) ts) ≡ cond b 1 0 + length ts
 cond-length true t ts = omega arith
 cond-length false t ts = omega arith
 
@@ -272,7 +272,7 @@ one-most : (b : Bool) → cond b 1 0 ≤ 1
 one-most true = omega arith
 one-most false = omega arith
 
-terminals-most : (g : Graph) (es : List Edge) → terminals g es ≤ length es
+pub terminals-most : (g : Graph) (es : List Edge) → terminals g es ≤ length es
 terminals-most g [] = omega arith
 terminals-most g (e ∷ es) = omega (arith, one-most (isTerminal g e), terminals-most g es)
 

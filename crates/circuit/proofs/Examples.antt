@@ -12,7 +12,7 @@ use Rattle.assertion.specs.declared.Mode.the-variants.{Unsaid, Terminal, Strong
 use Rattle.assertion.specs.Graph.{Bytes, Expr, signal, constant, truth, alike, signalsFrom, constantsFrom, Edge, Name, Graph, bitsOf, signalBits, constantBits, Cycle, isTerminal}
 use Rattle.circuit.specs.Gates.{inv, gate}
 use Rattle.circuit.specs.Build.{firstEdgeLatch, firstGate, bitLiteral, alikeOf, formula, happyOr, condemnedOr, edgePiece, masked, gathered, judged, accepted, gatesOf}
-use Rattle.circuit.specs.Numbers.{numbersOf}
+use Rattle.circuit.specs.Numbers.{numbersWith, numbersOf}
 use Rattle.circuit.specs.Count.{formulaGates, terminals, gateFormula}
 
 abbrev p : Bytes
@@ -53,7 +53,7 @@ unmarked = edge 0 1 false (signal 0) p (signal 1) q
 -- ---- document 01's numbers of G
 numbers-of-G : numbersOf (graph (first ∷ []))
     ≡ 12 ∷ 3 ∷ 2 ∷ 1 ∷ 7 ∷ 18 ∷ 0 ∷ 25 ∷ 0 ∷ 24 ∷ 8 ∷ 3 ∷ 10 ∷ 3 ∷ 4 ∷ 2 ∷ 16 ∷ 6 ∷ 16 ∷ 7 ∷ 4 ∷ 0 ∷ 23 ∷ 21 ∷ []
-unfolding numbersOf gatesOf accepted judged gathered masked firstGate firstEdgeLatch signalBits constantBits bitsOf edgePiece condemnedOr happyOr formula gate inv literalOf variableOf isInverted isTerminal
+unfolding numbersWith gatesOf accepted judged gathered masked firstGate firstEdgeLatch signalBits constantBits bitsOf edgePiece condemnedOr happyOr formula gate inv literalOf variableOf isInverted isTerminal
 numbers-of-G = refl
 
 -- ---- G with `E b b t p 1`: 17 gates, and the formula says so
@@ -72,7 +72,7 @@ unfolding accepted judged gathered masked firstGate firstEdgeLatch signalBits co
 always-accepts = refl
 
 unmarked-is-G : numbersOf (graph (unmarked ∷ [])) ≡ numbersOf (graph (first ∷ []))
-unfolding numbersOf gatesOf accepted judged gathered masked firstGate firstEdgeLatch signalBits constantBits bitsOf edgePiece condemnedOr happyOr formula gate inv literalOf variableOf isInverted isTerminal
+unfolding numbersWith gatesOf accepted judged gathered masked firstGate firstEdgeLatch signalBits constantBits bitsOf edgePiece condemnedOr happyOr formula gate inv literalOf variableOf isInverted isTerminal
 unmarked-is-G = refl
 
 -- ---- what a monitor answers in one lane, cycle for cycle: true accepts
@@ -84,27 +84,27 @@ answers net latches (c ∷ cs) =
 
 -- G on 110, 111, 010: the first cycle alone is rejected
 rejects-one : answers (numbersOf (graph (first ∷ []))) (false ∷ false ∷ []) ((49 ∷ 49 ∷ 48 ∷ []) ∷ (49 ∷ 49 ∷ 49 ∷ []) ∷ (48 ∷ 49 ∷ 48 ∷ []) ∷ []) ≡ false ∷ true ∷ true ∷ []
-unfolding numbersOf gatesOf accepted judged gathered masked firstGate firstEdgeLatch signalBits constantBits bitsOf edgePiece condemnedOr happyOr formula gate inv literalOf variableOf isInverted isTerminal outputOf nextOf nextsOf valuesOf front Rattle.netlist.specs.Meaning.gatesOf gateOf bitOf litOf signed
+unfolding numbersWith gatesOf accepted judged gathered masked firstGate firstEdgeLatch signalBits constantBits bitsOf edgePiece condemnedOr happyOr formula gate inv literalOf variableOf isInverted isTerminal outputOf nextOf nextsOf valuesOf front Rattle.netlist.specs.Meaning.gatesOf gateOf bitOf litOf signed
 rejects-one = refl
 
 -- G without init, 010, and with a false antecedent, 100
 no-init : answers (numbersOf (graph (first ∷ []))) (false ∷ false ∷ []) ((48 ∷ 49 ∷ 48 ∷ []) ∷ (49 ∷ 48 ∷ 48 ∷ []) ∷ []) ≡ true ∷ true ∷ []
-unfolding numbersOf gatesOf accepted judged gathered masked firstGate firstEdgeLatch signalBits constantBits bitsOf edgePiece condemnedOr happyOr formula gate inv literalOf variableOf isInverted isTerminal outputOf nextOf nextsOf valuesOf front Rattle.netlist.specs.Meaning.gatesOf gateOf bitOf litOf signed
+unfolding numbersWith gatesOf accepted judged gathered masked firstGate firstEdgeLatch signalBits constantBits bitsOf edgePiece condemnedOr happyOr formula gate inv literalOf variableOf isInverted isTerminal outputOf nextOf nextsOf valuesOf front Rattle.netlist.specs.Meaning.gatesOf gateOf bitOf litOf signed
 no-init = refl
 
 -- G with `E b b t p 1` on 110, 011, 001: a condemned path goes on, and a false antecedent excuses it
 rejects-two : answers (numbersOf (graph (first ∷ loop ∷ []))) (false ∷ false ∷ false ∷ false ∷ []) ((49 ∷ 49 ∷ 48 ∷ []) ∷ (48 ∷ 49 ∷ 49 ∷ []) ∷ (48 ∷ 48 ∷ 49 ∷ []) ∷ []) ≡ false ∷ false ∷ true ∷ []
-unfolding numbersOf gatesOf accepted judged gathered masked firstGate firstEdgeLatch signalBits constantBits bitsOf edgePiece condemnedOr happyOr formula gate inv literalOf variableOf isInverted isTerminal outputOf nextOf nextsOf valuesOf front Rattle.netlist.specs.Meaning.gatesOf gateOf bitOf litOf signed
+unfolding numbersWith gatesOf accepted judged gathered masked firstGate firstEdgeLatch signalBits constantBits bitsOf edgePiece condemnedOr happyOr formula gate inv literalOf variableOf isInverted isTerminal outputOf nextOf nextsOf valuesOf front Rattle.netlist.specs.Meaning.gatesOf gateOf bitOf litOf signed
 rejects-two = refl
 
 -- the same on 110, 111: the path starts anew at the latest init; and on 111, 011: a happy path goes on
 starts-anew : answers (numbersOf (graph (first ∷ loop ∷ []))) (false ∷ false ∷ false ∷ false ∷ []) ((49 ∷ 49 ∷ 48 ∷ []) ∷ (49 ∷ 49 ∷ 49 ∷ []) ∷ (48 ∷ 49 ∷ 49 ∷ []) ∷ []) ≡ false ∷ true ∷ true ∷ []
-unfolding numbersOf gatesOf accepted judged gathered masked firstGate firstEdgeLatch signalBits constantBits bitsOf edgePiece condemnedOr happyOr formula gate inv literalOf variableOf isInverted isTerminal outputOf nextOf nextsOf valuesOf front Rattle.netlist.specs.Meaning.gatesOf gateOf bitOf litOf signed
+unfolding numbersWith gatesOf accepted judged gathered masked firstGate firstEdgeLatch signalBits constantBits bitsOf edgePiece condemnedOr happyOr formula gate inv literalOf variableOf isInverted isTerminal outputOf nextOf nextsOf valuesOf front Rattle.netlist.specs.Meaning.gatesOf gateOf bitOf litOf signed
 starts-anew = refl
 
 -- G with `-` for `t` under `M terminal` on 110
 no-terminal : answers (numbersOf (graphUnder Terminal (unmarked ∷ []))) (false ∷ false ∷ []) ((49 ∷ 49 ∷ 48 ∷ []) ∷ []) ≡ true ∷ []
-unfolding numbersOf gatesOf accepted judged gathered masked firstGate firstEdgeLatch signalBits constantBits bitsOf edgePiece condemnedOr happyOr formula gate inv literalOf variableOf isInverted isTerminal outputOf nextOf nextsOf valuesOf front Rattle.netlist.specs.Meaning.gatesOf gateOf bitOf litOf signed
+unfolding numbersWith gatesOf accepted judged gathered masked firstGate firstEdgeLatch signalBits constantBits bitsOf edgePiece condemnedOr happyOr formula gate inv literalOf variableOf isInverted isTerminal outputOf nextOf nextsOf valuesOf front Rattle.netlist.specs.Meaning.gatesOf gateOf bitOf litOf signed
 no-terminal = refl
 
 -- ---- which edges are terminal: `V a` and `E a a - 1 0`, without a mode and under `M terminal`; then with
@@ -135,11 +135,11 @@ five-gates = refl
 
 -- on one cycle with init
 one-answers : map (λ (m : Mode). answers (numbersOf (looped m (fails ∷ []))) (false ∷ false ∷ []) ((49 ∷ []) ∷ [])) (Unsaid ∷ Terminal ∷ []) ≡ (false ∷ []) ∷ (true ∷ []) ∷ []
-unfolding numbersOf gatesOf accepted judged gathered masked firstGate firstEdgeLatch signalBits constantBits bitsOf edgePiece condemnedOr happyOr formula gate inv literalOf variableOf isInverted isTerminal outputOf nextOf nextsOf valuesOf front Rattle.netlist.specs.Meaning.gatesOf gateOf bitOf litOf signed
+unfolding numbersWith gatesOf accepted judged gathered masked firstGate firstEdgeLatch signalBits constantBits bitsOf edgePiece condemnedOr happyOr formula gate inv literalOf variableOf isInverted isTerminal outputOf nextOf nextsOf valuesOf front Rattle.netlist.specs.Meaning.gatesOf gateOf bitOf litOf signed
 one-answers = refl
 
 two-answers : map (λ (m : Mode). answers (numbersOf (looped m (fails ∷ holds ∷ []))) (false ∷ false ∷ false ∷ false ∷ []) ((49 ∷ []) ∷ [])) (Strong ∷ Unsaid ∷ Terminal ∷ []) ≡ (false ∷ []) ∷ (true ∷ []) ∷ (true ∷ []) ∷ []
-unfolding numbersOf gatesOf accepted judged gathered masked firstGate firstEdgeLatch signalBits constantBits bitsOf edgePiece condemnedOr happyOr formula gate inv literalOf variableOf isInverted isTerminal outputOf nextOf nextsOf valuesOf front Rattle.netlist.specs.Meaning.gatesOf gateOf bitOf litOf signed
+unfolding numbersWith gatesOf accepted judged gathered masked firstGate firstEdgeLatch signalBits constantBits bitsOf edgePiece condemnedOr happyOr formula gate inv literalOf variableOf isInverted isTerminal outputOf nextOf nextsOf valuesOf front Rattle.netlist.specs.Meaning.gatesOf gateOf bitOf litOf signed
 two-answers = refl
 
 -- `E b b t 1 0`, `E a b - 1 1` and the other way round, each on 100, 000: the second cycle is rejected, by the path through b
@@ -151,12 +151,12 @@ at-b = edge 1 1 true (truth true) (49 ∷ []) (truth false) (48 ∷ [])
 
 -- the edge that enters b stands last
 enters-last : answers (numbersOf (graph (at-b ∷ to-b ∷ []))) (false ∷ false ∷ false ∷ false ∷ []) ((49 ∷ 48 ∷ 48 ∷ []) ∷ (48 ∷ 48 ∷ 48 ∷ []) ∷ []) ≡ true ∷ false ∷ []
-unfolding numbersOf gatesOf accepted judged gathered masked firstGate firstEdgeLatch signalBits constantBits bitsOf edgePiece condemnedOr happyOr formula gate inv literalOf variableOf isInverted isTerminal outputOf nextOf nextsOf valuesOf front Rattle.netlist.specs.Meaning.gatesOf gateOf bitOf litOf signed
+unfolding numbersWith gatesOf accepted judged gathered masked firstGate firstEdgeLatch signalBits constantBits bitsOf edgePiece condemnedOr happyOr formula gate inv literalOf variableOf isInverted isTerminal outputOf nextOf nextsOf valuesOf front Rattle.netlist.specs.Meaning.gatesOf gateOf bitOf litOf signed
 enters-last = refl
 
 -- the edge that enters b stands first
 enters-first : answers (numbersOf (graph (to-b ∷ at-b ∷ []))) (false ∷ false ∷ false ∷ false ∷ []) ((49 ∷ 48 ∷ 48 ∷ []) ∷ (48 ∷ 48 ∷ 48 ∷ []) ∷ []) ≡ true ∷ false ∷ []
-unfolding numbersOf gatesOf accepted judged gathered masked firstGate firstEdgeLatch signalBits constantBits bitsOf edgePiece condemnedOr happyOr formula gate inv literalOf variableOf isInverted isTerminal outputOf nextOf nextsOf valuesOf front Rattle.netlist.specs.Meaning.gatesOf gateOf bitOf litOf signed
+unfolding numbersWith gatesOf accepted judged gathered masked firstGate firstEdgeLatch signalBits constantBits bitsOf edgePiece condemnedOr happyOr formula gate inv literalOf variableOf isInverted isTerminal outputOf nextOf nextsOf valuesOf front Rattle.netlist.specs.Meaning.gatesOf gateOf bitOf litOf signed
 enters-first = refl
 
 -- `S p`, `K k`, one terminal edge `k`/`p` from the start vertex: on 10 the setting 1 rejects, and the latch of k takes every setting
@@ -166,16 +166,16 @@ G-constant =
 
 -- the setting 1
 constant-rejects : answers (numbersOf (G-constant)) (true ∷ false ∷ false ∷ []) ((49 ∷ 48 ∷ []) ∷ []) ≡ false ∷ []
-unfolding numbersOf gatesOf accepted judged gathered masked firstGate firstEdgeLatch signalBits constantBits bitsOf edgePiece condemnedOr happyOr formula gate inv literalOf variableOf isInverted isTerminal outputOf nextOf nextsOf valuesOf front Rattle.netlist.specs.Meaning.gatesOf gateOf bitOf litOf signed
+unfolding numbersWith gatesOf accepted judged gathered masked firstGate firstEdgeLatch signalBits constantBits bitsOf edgePiece condemnedOr happyOr formula gate inv literalOf variableOf isInverted isTerminal outputOf nextOf nextsOf valuesOf front Rattle.netlist.specs.Meaning.gatesOf gateOf bitOf litOf signed
 constant-rejects = refl
 
 -- the setting 0
 constant-accepts : answers (numbersOf (G-constant)) (false ∷ false ∷ false ∷ []) ((49 ∷ 48 ∷ []) ∷ []) ≡ true ∷ []
-unfolding numbersOf gatesOf accepted judged gathered masked firstGate firstEdgeLatch signalBits constantBits bitsOf edgePiece condemnedOr happyOr formula gate inv literalOf variableOf isInverted isTerminal outputOf nextOf nextsOf valuesOf front Rattle.netlist.specs.Meaning.gatesOf gateOf bitOf litOf signed
+unfolding numbersWith gatesOf accepted judged gathered masked firstGate firstEdgeLatch signalBits constantBits bitsOf edgePiece condemnedOr happyOr formula gate inv literalOf variableOf isInverted isTerminal outputOf nextOf nextsOf valuesOf front Rattle.netlist.specs.Meaning.gatesOf gateOf bitOf litOf signed
 constant-accepts = refl
 
 constant-free : isFree (numbersOf G-constant) 0 ≡ true
-unfolding isFree numbersOf signalBits constantBits bitsOf literalOf
+unfolding isFree numbersWith signalBits constantBits bitsOf literalOf
 constant-free = refl
 
 -- ---- wide names
@@ -194,7 +194,7 @@ numbers-of-wide : numbersOf G-wide
     ≡ 28 ∷ 7 ∷ 2 ∷ 1 ∷ 19 ∷ 50 ∷ 0 ∷ 57 ∷ 0 ∷ 56
     ∷ 16 ∷ 3 ∷ 18 ∷ 3 ∷ 21 ∷ 3 ∷ 10 ∷ 4 ∷ 11 ∷ 5 ∷ 29 ∷ 27 ∷ 12 ∷ 6 ∷ 13 ∷ 7 ∷ 35 ∷ 33 ∷ 14 ∷ 8 ∷ 15 ∷ 9 ∷ 41 ∷ 39
     ∷ 37 ∷ 31 ∷ 44 ∷ 43 ∷ 46 ∷ 25 ∷ 48 ∷ 1 ∷ 48 ∷ 0 ∷ 46 ∷ 22 ∷ 55 ∷ 53 ∷ []
-unfolding numbersOf gatesOf accepted judged gathered masked firstGate firstEdgeLatch signalBits constantBits bitsOf edgePiece condemnedOr happyOr formula alikeOf bitLiteral gate inv literalOf variableOf isInverted isTerminal
+unfolding numbersWith gatesOf accepted judged gathered masked firstGate firstEdgeLatch signalBits constantBits bitsOf edgePiece condemnedOr happyOr formula alikeOf bitLiteral gate inv literalOf variableOf isInverted isTerminal
 numbers-of-wide = refl
 
 formula-of-wide : gateFormula G-wide ≡ 19
@@ -218,13 +218,13 @@ in-lane k₀ k₁ =
     answers (numbersOf G-run) (k₀ ∷ k₁ ∷ false ∷ false ∷ []) ((49 ∷ 48 ∷ 48 ∷ []) ∷ (49 ∷ 49 ∷ 48 ∷ []) ∷ (49 ∷ 48 ∷ 49 ∷ []) ∷ (49 ∷ 49 ∷ 49 ∷ []) ∷ [])
 
 setting-0 : in-lane false false ≡ false ∷ true ∷ true ∷ true ∷ []
-unfolding numbersOf gatesOf accepted judged gathered masked firstGate firstEdgeLatch signalBits constantBits bitsOf edgePiece condemnedOr happyOr formula alikeOf bitLiteral gate inv literalOf variableOf isInverted isTerminal outputOf nextOf nextsOf valuesOf front Rattle.netlist.specs.Meaning.gatesOf gateOf bitOf litOf signed
+unfolding numbersWith gatesOf accepted judged gathered masked firstGate firstEdgeLatch signalBits constantBits bitsOf edgePiece condemnedOr happyOr formula alikeOf bitLiteral gate inv literalOf variableOf isInverted isTerminal outputOf nextOf nextsOf valuesOf front Rattle.netlist.specs.Meaning.gatesOf gateOf bitOf litOf signed
 setting-0 = refl
 
 setting-1 : in-lane true false ≡ true ∷ false ∷ true ∷ true ∷ []
-unfolding numbersOf gatesOf accepted judged gathered masked firstGate firstEdgeLatch signalBits constantBits bitsOf edgePiece condemnedOr happyOr formula alikeOf bitLiteral gate inv literalOf variableOf isInverted isTerminal outputOf nextOf nextsOf valuesOf front Rattle.netlist.specs.Meaning.gatesOf gateOf bitOf litOf signed
+unfolding numbersWith gatesOf accepted judged gathered masked firstGate firstEdgeLatch signalBits constantBits bitsOf edgePiece condemnedOr happyOr formula alikeOf bitLiteral gate inv literalOf variableOf isInverted isTerminal outputOf nextOf nextsOf valuesOf front Rattle.netlist.specs.Meaning.gatesOf gateOf bitOf litOf signed
 setting-1 = refl
 
 setting-2 : in-lane false true ≡ true ∷ true ∷ true ∷ true ∷ []
-unfolding numbersOf gatesOf accepted judged gathered masked firstGate firstEdgeLatch signalBits constantBits bitsOf edgePiece condemnedOr happyOr formula alikeOf bitLiteral gate inv literalOf variableOf isInverted isTerminal outputOf nextOf nextsOf valuesOf front Rattle.netlist.specs.Meaning.gatesOf gateOf bitOf litOf signed
+unfolding numbersWith gatesOf accepted judged gathered masked firstGate firstEdgeLatch signalBits constantBits bitsOf edgePiece condemnedOr happyOr formula alikeOf bitLiteral gate inv literalOf variableOf isInverted isTerminal outputOf nextOf nextsOf valuesOf front Rattle.netlist.specs.Meaning.gatesOf gateOf bitOf litOf signed
 setting-2 = refl

@@ -13,19 +13,19 @@ use Rattle.netlist.specs.Lanes.{lane}
 use Rattle.netlist.specs.Valid.{isFree, freeCount}
 use Rattle.netlist.proofs.LaneLaws.{lane-zero, lane-word}
 use Rattle.assertion.specs.Graph.{Edge, Graph, signalBits, constantBits, Cycle}
-use Rattle.assertion.specs.Paths.{verdicts, countRejected}
+use Rattle.assertion.specs.Paths.{verdicts, countRejected, countChecked}
 use Rattle.assertion.proofs.PathLaws.{paths-mean}
-use Rattle.circuit.specs.Build.{gatesOf}
-use Rattle.circuit.specs.Numbers.{numbersOf}
+use Rattle.circuit.specs.Checked.{gatesWith}
+use Rattle.circuit.specs.Numbers.{numbersWith}
 use Rattle.circuit.proofs.Fits.{Fits}
 use Rattle.circuit.proofs.Tokens.{fresh}
 use Rattle.circuit.proofs.Lanes.{laneSetting, laneTokens, setting-length, setting-at, fresh-length}
-use Rattle.circuit.proofs.Count.{count, bound}
-use Rattle.circuit.proofs.Places.{latch-count, reset-edge, free-constant, free-edge, free-before}
+use Rattle.circuit.proofs.CheckedCount.{count-with, bound-with}
+use Rattle.circuit.proofs.Places.{free-before, free-constant, free-edge, gate-count, latch-count, numbers-mean, reset-edge}
 use Rattle.circuit.proofs.Machine.{flatTokens, latchesOf, flat-length}
 use Rattle.circuit.proofs.Netlist.{numbers-netlist}
-use Rattle.calls.specs.declared.refusal.Checked.{Checked}
-use Rattle.calls.specs.declared.refusal.Checked.the-variants.{Passed, Failed}
+use Rattle.calls.specs.declared.refusal.Tested.{Tested}
+use Rattle.calls.specs.declared.refusal.Tested.the-variants.{Passed, Failed}
 use Rattle.calls.specs.declared.tally.Tally.{Tally}
 use Rattle.calls.specs.Tallies.{cleared}
 use Rattle.trace.specs.Traces.{cyclesOf}
@@ -59,13 +59,18 @@ unfolding Cycles
 whole n [] h = tt
 whole n (c ∷ cs) h = (cycle-length n c (h .0), whole n cs (h .1))
 
+-- no cycle is counted before the first
+none : (checked : Bool) → 0 ≡ cond {A = ℕ} checked 0 0
+none true = refl
+none false = refl
+
 -- the verdict in an answer
 unfoldable verdictIn : Answer → Verdict
 verdictIn (ran (Done v)) = v
 verdictIn (ran (Refused cause)) = Accepted
 verdictIn (stepped outcome) = Accepted
 
-module _ (g : Graph) (fits : Fits g) (surplus : List ℕ) where
+module _ (checked : Bool) (g : Graph) (fits : Fits g) (surplus : List ℕ) where
   abbrev K : ℕ
   K = constantBits g
 
@@ -73,7 +78,7 @@ module _ (g : Graph) (fits : Fits g) (surplus : List ℕ) where
   E = length (g .edges)
 
   abbrev net : List ℕ
-  net = numbersOf g ++ surplus
+  net = numbersWith checked g ++ surplus
 
   -- ---- start: each lane has its setting, and no token
   abbrev begun : ℕ → List Bool
@@ -97,16 +102,16 @@ module _ (g : Graph) (fits : Fits g) (surplus : List ℕ) where
       by : (b : Bool) → ltb k K ≡ b → startBit net k n ≡ getD (begun n) k false
       by true e =
           let l : k < K = ltb-true k K e in
-          ap (λ (b : Bool). cond b (lane (freeCount net k) n) (eqb (getD net (resetAt k) 0) 1)) (free-constant g surplus k l)
-          ∙ ap (λ (j : ℕ). lane j n) (free-before g surplus k (omega arith))
+          ap (λ (b : Bool). cond b (lane (freeCount net k) n) (eqb (getD net (resetAt k) 0) 1)) (free-constant g checked surplus k l)
+          ∙ ap (λ (j : ℕ). lane j n) (free-before g checked surplus k (omega arith))
           ∙ sym (setting-at g n k l)
           ∙ sym (List·getD-append (laneSetting g n) (flatTokens (fresh (g .edges))) false k (omega (arith, setting-length g n)))
       by false e =
           let l : K ≤ k = ltb-false k K e in
           let i : K + (k - K) ≡ k = omega arith in
           let j : length (laneSetting g n) + (k - K) ≡ k = omega (arith, setting-length g n) in
-          let f : isFree net k ≡ false = ap (isFree net) (sym i) ∙ free-edge g surplus (k - K) (omega arith) in
-          let z : getD net (resetAt k) 0 ≡ 0 = ap (λ (m : ℕ). getD net (resetAt m) 0) (sym i) ∙ reset-edge g surplus (k - K) (omega arith) in
+          let f : isFree net k ≡ false = ap (isFree net) (sym i) ∙ free-edge g checked surplus (k - K) (omega arith) in
+          let z : getD net (resetAt k) 0 ≡ 0 = ap (λ (m : ℕ). getD net (resetAt m) 0) (sym i) ∙ reset-edge g checked surplus (k - K) (omega arith) in
           ap₂ (λ (b : Bool) (m : ℕ). cond b (lane (freeCount net k) n) (eqb m 1)) f z
           ∙ sym (fresh-at (g .edges) (k - K))
           ∙ sym (getD-append-add (laneSetting g n) (flatTokens (fresh (g .edges))) (k - K) false)
@@ -116,7 +121,7 @@ module _ (g : Graph) (fits : Fits g) (surplus : List ℕ) where
   start-lane n h =
       let S = startWords net (latchCount net) in
       let m : length (map (lane n) S) ≡ latchCount net = length-map S (lane n) ∙ length-starts net (latchCount net) in
-      let c = latch-count g surplus in
+      let c = latch-count g checked surplus in
       ext-getD false (map (lane n) S) (begun n) (m ∙ c ∙ sym (begun-length n))
       (λ k l.
       let b : k < latchCount net = omega arith in
@@ -126,8 +131,8 @@ module _ (g : Graph) (fits : Fits g) (surplus : List ℕ) where
       ∙ lane-word n (startBit net k) h
       ∙ start-bit n k (omega arith))
 
-  started : (latches : List ℕ) → Right g fits surplus [] (startWords net (latchCount net) ++ drop (latchCount net) latches) cleared
-  unfolding laneTokens countRejected
+  started : (latches : List ℕ) → Right checked g fits surplus [] (startWords net (latchCount net) ++ drop (latchCount net) latches) cleared
+  unfolding laneTokens countRejected countChecked
   started latches =
       record {
         lanes-are = λ n h.
@@ -135,20 +140,21 @@ module _ (g : Graph) (fits : Fits g) (surplus : List ℕ) where
             ∙ start-lane n h;
         cycles-are = refl;
         rejected-are = refl;
+        checked-are = none checked;
       }
 
   -- ---- a call
   record After (seen : List Cycle) (x : Call) (d : Called) : Type 0 where
-    kept : Right g fits surplus (seen ++ d .cycles) (d .kept .latches) (d .kept .tally)
+    kept : Right checked g fits surplus (seen ++ d .cycles) (d .kept .latches) (d .kept .tally)
     bytes : BytesRight g seen x d
     verdict : VerdictRight g seen x d
 
-  module _ (seen : List Cycle) (k : Kept) (r : Right g fits surplus seen (k .latches) (k .tally)) where
+  module _ (seen : List Cycle) (k : Kept) (r : Right checked g fits surplus seen (k .latches) (k .tally)) where
     step-after : (cycle values : List ℕ) → After seen (stepCall cycle values) (called net k (stepCall cycle values))
     unfolding called stepOf stepAs stepGives BytesRight VerdictRight
     step-after cycle values = by (stepCheck net cycle (length (k .latches)) (length values) (k .tally)) refl
       where
-        by : (c : Checked) → stepCheck net cycle (length (k .latches)) (length values) (k .tally) ≡ c
+        by : (c : Tested) → stepCheck net cycle (length (k .latches)) (length values) (k .tally) ≡ c
             → After seen (stepCall cycle values) (record {
               kept = record { latches = stepAs c net cycle (k .latches) values (k .tally) .latches; tally = stepAs c net cycle (k .latches) values (k .tally) .answer .tally };
               answer = stepped (stepAs c net cycle (k .latches) values (k .tally) .answer .outcome);
@@ -157,14 +163,14 @@ module _ (g : Graph) (fits : Fits g) (surplus : List ℕ) where
             })
         by Passed e =
             let p = step-passed net cycle (length (k .latches)) (length values) (k .tally) _ refl e in
-            record { kept = one-more g fits surplus seen cycle (k .latches) (k .tally) (cycle-length (inputCount net) cycle (p .bits)) r; bytes = tt; verdict = tt }
+            record { kept = one-more checked g fits surplus seen cycle (k .latches) (k .tally) (cycle-length (inputCount net) cycle (p .bits)) r; bytes = tt; verdict = tt }
         by (Failed cause) e = record { kept = rw append-nil r; bytes = tt; verdict = tt }
 
     run-after : (trace values bytes : List ℕ) → After seen (runCall trace values bytes) (called net k (runCall trace values bytes))
     unfolding called runOf runAs runGives ranTo BytesRight VerdictRight verdictIn
     run-after trace values bytes = by (runCheck net trace (length (k .latches)) (length values) (length bytes) (k .tally)) refl
       where
-        by : (c : Checked) → runCheck net trace (length (k .latches)) (length values) (length bytes) (k .tally) ≡ c
+        by : (c : Tested) → runCheck net trace (length (k .latches)) (length values) (length bytes) (k .tally) ≡ c
             → After seen (runCall trace values bytes) (record {
               kept = record { latches = runAs c net trace (k .latches) values bytes (k .tally) .latches; tally = runAs c net trace (k .latches) values bytes (k .tally) .answer .tally };
               answer = ran (runAs c net trace (k .latches) values bytes (k .tally) .answer .outcome);
@@ -175,7 +181,7 @@ module _ (g : Graph) (fits : Fits g) (surplus : List ℕ) where
             let p = run-passed net trace (length (k .latches)) (length values) (length bytes) (k .tally) e in
             let cs = cyclesOf (inputCount net) trace in
             let R = runCycles net (running (k .latches) values [] (k .tally)) cs in
-            let m = many g fits surplus cs seen (running (k .latches) values [] (k .tally)) (whole (inputCount net) cs (lines-are-cycles (inputCount net) trace (p .faultless))) r in
+            let m = many checked g fits surplus cs seen (running (k .latches) values [] (k .tally)) (whole (inputCount net) cs (lines-are-cycles (inputCount net) trace (p .faultless))) r in
             record {
               kept = m .0;
               bytes = take-at (R .bytes) (drop (length (R .bytes)) bytes) (length cs) (ap length (m .1) ∙ verdicts-length g seen cs) ∙ m .1;
@@ -183,33 +189,35 @@ module _ (g : Graph) (fits : Fits g) (surplus : List ℕ) where
             }
         by (Failed cause) e = record { kept = rw append-nil r; bytes = refl; verdict = λ v o. let z : _≡_ {A = ℕ} 0 1 = cc in absurd (omega arith) }
 
-  call-after : (x : Call) (seen : List Cycle) (k : Kept) → Right g fits surplus seen (k .latches) (k .tally) → After seen x (called net k x)
+  call-after : (x : Call) (seen : List Cycle) (k : Kept) → Right checked g fits surplus seen (k .latches) (k .tally) → After seen x (called net k x)
   call-after (stepCall cycle values) seen k r = step-after seen k r cycle values
   call-after (runCall trace values bytes) seen k r = run-after seen k r trace values bytes
 
-  calls-right : (xs : List Call) (seen : List Cycle) (k : Kept) → Right g fits surplus seen (k .latches) (k .tally) → Counted g net seen k xs
+  calls-right : (xs : List Call) (seen : List Cycle) (k : Kept) → Right checked g fits surplus seen (k .latches) (k .tally) → Counted checked g net seen k xs
   unfolding Counted
-  calls-right [] seen k r = (r .cycles-are, r .rejected-are)
+  calls-right [] seen k r = (r .cycles-are, r .rejected-are, r .checked-are)
   calls-right (x ∷ xs) seen k r =
       let a = call-after x seen k r in
       (a .bytes, a .verdict, calls-right xs (seen ++ called net k x .cycles) (called net k x .kept) (a .kept))
 
-  counts : (latches : List ℕ) (t : Tally) → startOf net latches t .answer .outcome ≡ Ready → (xs : List Call) → Counted g net [] (keptBy (startOf net latches t)) xs
+  counts : (latches : List ℕ) (t : Tally) → startOf net latches t .answer .outcome ≡ Ready → (xs : List Call) → Counted checked g net [] (keptBy (startOf net latches t)) xs
   unfolding startOf startAs
   counts latches t = by (startCheck net (length latches))
     where
-      by : (c : Checked) → startAs c net latches t .answer .outcome ≡ Ready → (xs : List Call) → Counted g net [] (keptBy (startAs c net latches t)) xs
+      by : (c : Tested) → startAs c net latches t .answer .outcome ≡ Ready → (xs : List Call) → Counted checked g net [] (keptBy (startAs c net latches t)) xs
       by Passed e xs = calls-right xs [] (record { latches = startWords net (latchCount net) ++ drop (latchCount net) latches; tally = cleared }) (started latches)
       by (Failed cause) e xs = let z : _≡_ {A = ℕ} 0 1 = cc in absurd (omega arith)
 
 -- the monitor's numbers, with any surplus, do what demand 3 asks
-pub demand3 : (g : Graph) → Fits g → length (gatesOf g) + (1 + signalBits g) + (constantBits g + 2 * length (g .edges)) ≤ 4095
-    → (surplus : List ℕ) → Demand3 g (numbersOf g ++ surplus) (length (gatesOf g))
-demand3 g fits small surplus =
+pub demand3 : (checked : Bool) (g : Graph) → Fits g → length (gatesWith checked g) + (1 + signalBits g) + (constantBits g + 2 * length (g .edges)) ≤ 4095
+    → (surplus : List ℕ) → Demand3 checked g (numbersWith checked g ++ surplus) (length (gatesWith checked g))
+demand3 checked g fits small surplus =
     record {
-      netlist = numbers-netlist g fits small surplus;
-      formula = count g fits;
-      bound = omega (arith, count g fits, bound g);
-      counted = counts g fits surplus;
+      netlist = numbers-netlist checked g fits small surplus;
+      gates = gate-count g checked surplus;
+      numbers = numbers-mean g checked surplus;
+      formula = count-with checked g fits;
+      bound = omega (arith, count-with checked g fits, bound-with checked g);
+      counted = counts checked g fits surplus;
       paths = paths-mean;
     }

@@ -1,75 +1,81 @@
 -- While cycles go through the monitor, each lane of the latch words is its setting and its tokens, and the tally is what the paths say. Assumes nothing.
-use Prim.Native.Nat.{ℕ, zero, suc, _+_, _<_}
+use Prim.Native.Nat.{ℕ, suc, _+_, _<_}
 use mathlib.Core.Path.{_≡_, refl, ap, ap₂, subst, sym, _∙_}
-use mathlib.Core.Bool.{Bool, not, _&&_, cond}
+use mathlib.Core.Bool.{Bool, true, false, not, cond}
 use mathlib.Core.List.{List, [], _∷_, _++_, map, append-assoc, append-nil}
 use native.Mathlib.Omega.{arith}
 use lib.ListN.{length, take, drop, length-append}
 use lib.Seq.{take-at}
-use Rattle.netlist.specs.Layout.{inputCount, latchCount}
+use lib.Dec.{eqb}
+use Rattle.netlist.specs.Layout.{inputCount, latchCount, outputCount}
 use Rattle.netlist.specs.Lanes.{lane, each}
 use Rattle.netlist.specs.Meaning.{bools, words, bitOf, valuesOf, nextOf, outputOf}
+use Rattle.netlist.proofs.EachLaws.{each-all, each-same}
+use Rattle.netlist.proofs.LaneLaws.{lane-zero}
 use Rattle.netlist.proofs.MeaningLaws.{length-nexts, lane-inputs}
 use Rattle.netlist.proofs.AigerLaws.{means}
 use Rattle.assertion.specs.Graph.{Graph, signalBits, Cycle}
-use Rattle.assertion.specs.Paths.{isRejected, verdicts, sum, countRejected}
-use Rattle.circuit.specs.Numbers.{numbersOf}
+use Rattle.assertion.specs.Paths.{isRejected, isChecked, bytesOf, verdicts, sum, countRejected, countChecked}
+use Rattle.circuit.specs.Numbers.{numbersWith}
 use Rattle.circuit.proofs.Fits.{Fits}
 use Rattle.circuit.proofs.Tokens.{Token, rejecting}
 use Rattle.circuit.proofs.Lanes.{laneSetting, laneTokens, laneAccepts, setting-length, tokens-length, tokens-more, lanes}
-use Rattle.circuit.proofs.Places.{inputs-are}
-use Rattle.circuit.proofs.Machine.{latchesOf, moves-next, moves-output}
+use Rattle.circuit.proofs.Alive.{checking, laneChecks, lanes-checked}
+use Rattle.circuit.proofs.Places.{inputs-are, outputs-are}
+use Rattle.circuit.proofs.Machine.{latchesOf, moves-next, moves-output, moves-checked}
 use Rattle.calls.specs.declared.tally.Tally.{Tally}
 use Rattle.calls.specs.Tallies.{counted}
-use Rattle.simulator.specs.Step.{cycleWords, outputWord, latchesAfter}
+use Rattle.simulator.specs.Step.{cycleWords, outputWord, checkedWord, latchesAfter}
 use Rattle.simulator.specs.Run.{verdictByte, Running, runCycle, runCycles}
 
 -- ---- counting, one cycle more at the end
-verdicts-append : (g : Graph) (s a b : List Cycle) → verdicts g s (a ++ b) ≡ verdicts g s a ++ verdicts g (s ++ a) b
-verdicts-append g s [] b = rw append-nil
-verdicts-append g s (c ∷ a) b =
-    ap (_∷_ (cond (isRejected g (s ++ (c ∷ []))) 1 0))
-    (verdicts-append g (s ++ (c ∷ [])) a b ∙ ap (λ (l : List Cycle). verdicts g (s ++ (c ∷ [])) a ++ verdicts g l b) (append-assoc s (c ∷ []) a))
+bytes-append : (f : List Cycle → Bool) (s a b : List Cycle) → bytesOf f s (a ++ b) ≡ bytesOf f s a ++ bytesOf f (s ++ a) b
+bytes-append f s [] b = rw append-nil
+bytes-append f s (c ∷ a) b =
+    ap (_∷_ (cond (f (s ++ (c ∷ []))) 1 0))
+    (bytes-append f (s ++ (c ∷ [])) a b ∙ ap (λ (l : List Cycle). bytesOf f (s ++ (c ∷ [])) a ++ bytesOf f l b) (append-assoc s (c ∷ []) a))
 
 sum-append : (a b : List ℕ) → sum (a ++ b) ≡ sum a + sum b
 sum-append [] b = omega arith
 sum-append (x ∷ a) b = omega (arith, sum-append a b)
 
+one-byte : (f : List Cycle → Bool) (cs : List Cycle) (c : Cycle) → sum (bytesOf f [] (cs ++ (c ∷ []))) ≡ sum (bytesOf f [] cs) + cond (f (cs ++ (c ∷ []))) 1 0
+one-byte f cs c = omega (arith, ap sum (bytes-append f [] cs (c ∷ [])), sum-append (bytesOf f [] cs) (bytesOf f cs (c ∷ [])))
+
 count-more : (g : Graph) (cs : List Cycle) (c : Cycle) → countRejected g (cs ++ (c ∷ [])) ≡ countRejected g cs + cond (isRejected g (cs ++ (c ∷ []))) 1 0
 unfolding countRejected
-count-more g cs c = omega (arith, ap sum (verdicts-append g [] cs (c ∷ [])), sum-append (verdicts g [] cs) (verdicts g cs (c ∷ [])))
+count-more g cs c = one-byte (isRejected g) cs c
+
+checked-more : (g : Graph) (cs : List Cycle) (c : Cycle) → countChecked g (cs ++ (c ∷ [])) ≡ countChecked g cs + cond (isChecked g (cs ++ (c ∷ []))) 1 0
+unfolding countChecked
+checked-more g cs c = one-byte (isChecked g) cs c
 
 pub verdicts-length : (g : Graph) (s cs : List Cycle) → length (verdicts g s cs) ≡ length cs
 verdicts-length g s [] = refl
 verdicts-length g s (c ∷ cs) = ap suc (verdicts-length g (s ++ (c ∷ [])) cs)
-
--- tests alike below k are alike at all of them
-each-same : (k : ℕ) (f h : ℕ → Bool) → ((n : ℕ) → n < k → f n ≡ h n) → each k f ≡ each k h
-unfolding each
-each-same zero f h e = refl
-each-same (suc k) f h e = ap₂ _&&_ (e 0 (omega arith)) (each-same k (λ n. f (suc n)) (λ n. h (suc n)) (λ n l. e (suc n) (omega arith)))
 
 -- each of these cycles has a byte for each input
 abbrev pub Whole : ℕ → List Cycle → Type 0
 Whole i [] = Unit {0}
 Whole i (c ∷ cs) = (length c ≡ i) × Whole i cs
 
-module _ (g : Graph) (fits : Fits g) (surplus : List ℕ) where
+module _ (checked : Bool) (g : Graph) (fits : Fits g) (surplus : List ℕ) where
   abbrev net : List ℕ
-  net = numbersOf g ++ surplus
+  net = numbersWith checked g ++ surplus
 
   -- latch words and a tally after the cycles seen
   pub record Right (seen : List Cycle) (latches : List ℕ) (t : Tally) : Type 0 where
     pub lanes-are : (n : ℕ) → n < 64 → map (lane n) (take (latchCount net) latches) ≡ latchesOf (laneSetting g n) (laneTokens g seen n)
     pub cycles-are : t .cycles ≡ length seen
     pub rejected-are : t .rejected ≡ countRejected g seen
+    pub checked-are : t .checked ≡ cond checked (countChecked g seen) 0
 
   module _ (seen : List Cycle) (c : Cycle) (latches : List ℕ) (t : Tally) (whole : length c ≡ inputCount net) (r : Right seen latches t) where
     abbrev w : ℕ
     w = outputWord net c latches
 
     long : length c ≡ 1 + signalBits g
-    long = whole ∙ inputs-are g surplus
+    long = whole ∙ inputs-are g checked surplus
 
     -- in lane n, the words are the values of the lane
     values-lane : (n : ℕ) → n < 64
@@ -88,7 +94,7 @@ module _ (g : Graph) (fits : Fits g) (surplus : List ℕ) where
         ap (map (lane n)) (take-at (nextOf words net W) (drop (latchCount net) latches) (latchCount net) (length-nexts words net (latchCount net) W))
         ∙ means net .lanes n h .next W
         ∙ ap (nextOf bools net) (values-lane n h)
-        ∙ moves-next g fits (laneSetting g n) (laneTokens g seen n) c (setting-length g n) (tokens-length g seen n) long surplus
+        ∙ moves-next g fits (laneSetting g n) (laneTokens g seen n) c (setting-length g n) (tokens-length g seen n) long checked surplus
         ∙ ap (latchesOf (laneSetting g n)) (sym (tokens-more g seen c n))
 
     -- the output is high just where the lane accepts
@@ -97,7 +103,7 @@ module _ (g : Graph) (fits : Fits g) (surplus : List ℕ) where
     output-lane n h =
         means net .lanes n h .output 0 (cycleWords net c latches)
         ∙ ap (outputOf bools net 0) (values-lane n h)
-        ∙ moves-output g fits (laneSetting g n) (laneTokens g seen n) c (setting-length g n) (tokens-length g seen n) long surplus
+        ∙ moves-output g fits (laneSetting g n) (laneTokens g seen n) c (setting-length g n) (tokens-length g seen n) long checked surplus
         ∙ ap (λ (ts : List Token). not (rejecting g (g .edges) ts)) (sym (tokens-more g seen c n))
 
     -- the cycle is rejected just where the paths say so
@@ -111,24 +117,67 @@ module _ (g : Graph) (fits : Fits g) (surplus : List ℕ) where
     unfolding verdictByte
     verdict = ap (λ (b : Bool). cond b 1 0) judged
 
-    pub one-more : Right (seen ++ (c ∷ [])) (latchesAfter net c latches) (counted t w)
-    unfolding counted verdictByte
-    one-more =
-        record {
-          lanes-are = next-lane;
-          cycles-are = omega (arith, r .cycles-are, length-append seen (c ∷ []));
-          rejected-are = omega (arith, r .rejected-are, verdict, count-more g seen c);
-        }
+-- ---- the second word
+-- it is 0 where there is one output
+word-of-one : (net cycle latches : List ℕ) → outputCount net ≡ 1 → Rattle.calls.specs.Tallies.isChecked (checkedWord net cycle latches) ≡ false
+unfolding checkedWord Rattle.calls.specs.Tallies.isChecked
+word-of-one net cycle latches e = rw e (ap not (each-all (λ n. not (lane n 0)) 64 (λ n l. ap not (lane-zero n))))
 
-  -- cycles one after another
-  pub many : (cs seen : List Cycle) (r : Running) → Whole (inputCount net) cs → Right seen (r .latches) (r .tally)
-      → Right (seen ++ cs) (runCycles net r cs .latches) (runCycles net r cs .tally) × (runCycles net r cs .bytes ≡ r .bytes ++ verdicts g seen cs)
+-- it is high in some lane just where the paths say that a rule is at stake
+at-stake : (g : Graph) (fits : Fits g) (surplus : List ℕ) (seen : List Cycle) (c : Cycle) (latches : List ℕ) (t : Tally)
+    → length c ≡ inputCount (numbersWith true g ++ surplus) → Right true g fits surplus seen latches t
+    → Rattle.calls.specs.Tallies.isChecked (checkedWord (numbersWith true g ++ surplus) c latches) ≡ isChecked g (seen ++ (c ∷ []))
+unfolding checkedWord Rattle.calls.specs.Tallies.isChecked laneChecks
+at-stake g fits surplus seen c latches t whole r =
+    ap (λ (o : ℕ). not (each 64 (λ n. not (lane n (cond (eqb o 2) (outputOf words net 1 W) 0))))) (outputs-are g true surplus)
+    ∙ ap not (each-same 64 (λ n. not (lane n (outputOf words net 1 W))) (λ n. not (laneChecks g (seen ++ (c ∷ [])) n)) (λ n h. ap not (high n h)))
+    ∙ lanes-checked g (seen ++ (c ∷ [])) (fits .constants)
+  where
+    net : List ℕ
+    net = numbersWith true g ++ surplus
+
+    W : List ℕ
+    W = cycleWords net c latches
+
+    high : (n : ℕ) → n < 64 → lane n (outputOf words net 1 W) ≡ checking g (g .edges) (laneTokens g (seen ++ (c ∷ [])) n)
+    high n h =
+        means net .lanes n h .output 1 W
+        ∙ ap (outputOf bools net 1) (values-lane true g fits surplus seen c latches t whole r n h)
+        ∙ moves-checked g fits (laneSetting g n) (laneTokens g seen n) c (setting-length g n) (tokens-length g seen n) (whole ∙ inputs-are g true surplus) surplus
+        ∙ ap (checking g (g .edges)) (sym (tokens-more g seen c n))
+
+third-more : (checked : Bool) (g : Graph) (fits : Fits g) (surplus : List ℕ) (seen : List Cycle) (c : Cycle) (latches : List ℕ) (t : Tally)
+    → length c ≡ inputCount (numbersWith checked g ++ surplus) → Right checked g fits surplus seen latches t
+    → t .checked + cond (Rattle.calls.specs.Tallies.isChecked (checkedWord (numbersWith checked g ++ surplus) c latches)) 1 0 ≡ cond checked (countChecked g (seen ++ (c ∷ []))) 0
+third-more true g fits surplus seen c latches t whole r =
+    omega (arith, r .checked-are, ap {B = ℕ} (λ (b : Bool). cond b 1 0) (at-stake g fits surplus seen c latches t whole r), checked-more g seen c)
+third-more false g fits surplus seen c latches t whole r =
+    omega (arith, r .checked-are, ap {B = ℕ} (λ (b : Bool). cond b 1 0) (word-of-one (numbersWith false g ++ surplus) c latches (outputs-are g false surplus)))
+
+-- ---- a cycle more, and cycles one after another
+module _ (checked : Bool) (g : Graph) (fits : Fits g) (surplus : List ℕ) where
+  abbrev monitor : List ℕ
+  monitor = numbersWith checked g ++ surplus
+
+  pub one-more : (seen : List Cycle) (c : Cycle) (latches : List ℕ) (t : Tally) → length c ≡ inputCount monitor → Right checked g fits surplus seen latches t
+      → Right checked g fits surplus (seen ++ (c ∷ [])) (latchesAfter monitor c latches) (counted t (outputWord monitor c latches) (checkedWord monitor c latches))
+  unfolding counted verdictByte
+  one-more seen c latches t whole r =
+      record {
+        lanes-are = next-lane checked g fits surplus seen c latches t whole r;
+        cycles-are = omega (arith, r .cycles-are, length-append seen (c ∷ []));
+        rejected-are = omega (arith, r .rejected-are, verdict checked g fits surplus seen c latches t whole r, count-more g seen c);
+        checked-are = third-more checked g fits surplus seen c latches t whole r;
+      }
+
+  pub many : (cs seen : List Cycle) (r : Running) → Whole (inputCount monitor) cs → Right checked g fits surplus seen (r .latches) (r .tally)
+      → Right checked g fits surplus (seen ++ cs) (runCycles monitor r cs .latches) (runCycles monitor r cs .tally) × (runCycles monitor r cs .bytes ≡ r .bytes ++ verdicts g seen cs)
   unfolding runCycles runCycle
   many [] seen r l k = (rw append-nil k, sym (append-nil (r .bytes)))
   many (c ∷ cs) seen r l k =
-      let m = many cs (seen ++ (c ∷ [])) (runCycle net c r) (l .1) (one-more seen c (r .latches) (r .tally) (l .0) k) in (
-        subst (λ (z : List Cycle). Right z (runCycles net (runCycle net c r) cs .latches) (runCycles net (runCycle net c r) cs .tally)) (append-assoc seen (c ∷ []) cs) (m .0),
+      let m = many cs (seen ++ (c ∷ [])) (runCycle monitor c r) (l .1) (one-more seen c (r .latches) (r .tally) (l .0) k) in (
+        subst (λ (z : List Cycle). Right checked g fits surplus z (runCycles monitor (runCycle monitor c r) cs .latches) (runCycles monitor (runCycle monitor c r) cs .tally)) (append-assoc seen (c ∷ []) cs) (m .0),
         m .1
-            ∙ append-assoc (r .bytes) (verdictByte (outputWord net c (r .latches)) ∷ []) (verdicts g (seen ++ (c ∷ [])) cs)
-            ∙ ap (λ (b : ℕ). r .bytes ++ (b ∷ verdicts g (seen ++ (c ∷ [])) cs)) (verdict seen c (r .latches) (r .tally) (l .0) k),
+            ∙ append-assoc (r .bytes) (verdictByte (outputWord monitor c (r .latches)) ∷ []) (verdicts g (seen ++ (c ∷ [])) cs)
+            ∙ ap (λ (b : ℕ). r .bytes ++ (b ∷ verdicts g (seen ++ (c ∷ [])) cs)) (verdict checked g fits surplus seen c (r .latches) (r .tally) (l .0) k),
       )

@@ -4,3 +4,4 @@ pub mod Verdicts
 pub mod Demand
 pub mod Forms
 mod Examples
+mod CheckedExamples

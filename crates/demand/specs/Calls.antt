@@ -27,7 +27,7 @@ pub record Kept : Type 0 where
 
 -- the cycles that an accepted call gives; a refused one gives none
 unfoldable pub stepGives : StepOutcome → List ℕ → List Cycle
-stepGives (step.Output w) cycle = cycle ∷ []
+stepGives (step.Output w c) cycle = cycle ∷ []
 stepGives (step.Refused cause) cycle = []
 
 unfoldable pub runGives : RunOutcome → ℕ → List ℕ → List Cycle

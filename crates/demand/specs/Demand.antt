@@ -1,12 +1,13 @@
 -- DEMAND 3. Assumes nothing.
 use mathlib.Core.Path.{_≡_}
-use mathlib.Core.Bool.{true}
+use mathlib.Core.Bool.{Bool, true, cond}
 use mathlib.Core.List.{List, [], _∷_, _++_}
-use Prim.Native.Nat.{ℕ, _+_, _*_, _≤_}
+use Prim.Native.Nat.{ℕ, _+_, _≤_}
 use lib.ListN.{length, take}
+use Rattle.netlist.specs.Layout.{gateCount}
 use Rattle.netlist.specs.Valid.{isNetlist}
 use Rattle.assertion.specs.Graph.{Graph, Cycle}
-use Rattle.assertion.specs.Paths.{Rejected, verdicts, countRejected, PathsMean}
+use Rattle.assertion.specs.Paths.{Rejected, verdicts, countRejected, countChecked, PathsMean}
 use Rattle.calls.specs.declared.tally.Tally.{Tally}
 use Rattle.simulator.specs.declared.outcome.StartOutcome.the-variants.{Ready}
 use Rattle.simulator.specs.declared.outcome.Verdict.{Verdict}
@@ -14,7 +15,8 @@ use Rattle.simulator.specs.declared.outcome.Verdict.the-variants as verdict
 use Rattle.simulator.specs.declared.outcome.RunOutcome.the-variants.{Done}
 use Rattle.simulator.specs.Start.{StartEnd, startOf}
 use Rattle.simulator.specs.Run.{verdictOf}
-use Rattle.circuit.specs.Count.{gateFormula, allOperators}
+use Rattle.circuit.specs.Count.{gateFormulaWith, mostGates}
+use Rattle.circuit.specs.Claims.{NumbersMean}
 use Rattle.demand.specs.Calls.{Call, stepCall, runCall, Kept, ran, Called, called}
 
 -- each accepted run has written 1 for exactly those of its cycles that are rejected, 0 for its others,
@@ -44,25 +46,32 @@ VerdictRight g seen (stepCall cycle values) d = Unit {0}
 VerdictRight g seen (runCall trace values bytes) d = (v : Verdict) → d .answer ≡ ran (Done v) → VerdictOfPaths g seen (d .cycles) v
 
 -- after a list of calls, before which the cycles seen were given: each run's bytes and verdict are right; the
--- tally's cycles are the cycles of the accepted calls, in call order, and its rejected are those of them that
--- some setting and some rejecting path condemn
-unfoldable pub Counted : Graph → List ℕ → List Cycle → Kept → List Call → Type 0
-Counted g net seen k [] = (k .tally .cycles ≡ length seen) × (k .tally .rejected ≡ countRejected g seen)
-Counted g net seen k (x ∷ xs) =
+-- tally's cycles are the cycles of the accepted calls, in call order; its rejected are those of them that
+-- some setting and some rejecting path condemn; and its third number is, with checked, in how many of them "some
+-- setting and some path from the latest init, ending on a terminal edge, meet all antecedents", and else 0
+unfoldable pub Counted : Bool → Graph → List ℕ → List Cycle → Kept → List Call → Type 0
+Counted checked g net seen k [] =
+    (k .tally .cycles ≡ length seen) × (k .tally .rejected ≡ countRejected g seen) × (k .tally .checked ≡ cond checked (countChecked g seen) 0)
+Counted checked g net seen k (x ∷ xs) =
     let d = called net k x in
-    BytesRight g seen x d × VerdictRight g seen x d × Counted g net (seen ++ d .cycles) (d .kept) xs
+    BytesRight g seen x d × VerdictRight g seen x d × Counted checked g net (seen ++ d .cycles) (d .kept) xs
 
 -- what an accepted start leaves
 abbrev pub keptBy : StartEnd → Kept
 keptBy e = record { latches = e .latches; tally = e .answer .tally }
 
--- on the netlist net, which was built of the graph g with `made` gates
-pub record Demand3 (g : Graph) (net : List ℕ) (made : ℕ) : Type 0 where
+-- on the netlist net, which was built of the graph g, with checked or without, and has `made` gates
+pub record Demand3 (checked : Bool) (g : Graph) (net : List ℕ) (made : ℕ) : Type 0 where
   pub netlist : isNetlist net ≡ true
-  pub formula : made ≡ gateFormula g
-  pub bound : made ≤ 10 * length (g .edges) + 3 * allOperators (g .edges)
+  -- the number answered is that of the gates in the netlist
+  pub gates : gateCount net ≡ made
+  -- and these are the gates and outputs of which build says where they stand
+  pub numbers : NumbersMean checked g net
+  pub formula : made ≡ gateFormulaWith checked g
+  pub bound : made ≤ mostGates checked g
   -- after any accepted start, with any latch buffer and any tally, and any list of calls
   pub counted : (latches : List ℕ) (t : Tally) → startOf net latches t .answer .outcome ≡ Ready
-      → (xs : List Call) → Counted g net [] (keptBy (startOf net latches t)) xs
-  -- a cycle is counted as rejected, and has the byte 1, exactly if some setting and some rejecting path exist
+      → (xs : List Call) → Counted checked g net [] (keptBy (startOf net latches t)) xs
+  -- a cycle is counted as rejected, and has the byte 1, exactly if some setting and some rejecting path exist; and as
+  -- checked exactly if some setting and some path with all antecedents met do
   pub paths : PathsMean

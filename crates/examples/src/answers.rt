@@ -8,7 +8,7 @@ use simulator::RunOutcome;
 use text::Refusal;
 
 // Room for the numbers of any netlist, and for its latch and value words.
-const NUMBERS: usize = 8194;
+const NUMBERS: usize = 8195;
 
 const WORDS: usize = 4096;
 
@@ -34,7 +34,7 @@ fn put_gates(out: &mut [u8], at: usize, gates: usize) -> usize {
 // Appends what a build of a graph answers.
 fn put_graph(out: &mut [u8], at: usize, graph: &[u8]) -> usize {
     let mut net = [0u16; NUMBERS];
-    let built = builder::build(graph, &mut net);
+    let built = builder::build(graph, false, &mut net);
     match built {
         Built::Gates(gates) => put_gates(out, at, gates),
         Built::Refused(cause) => put_refusal(out, at, cause.refusal()),
@@ -109,6 +109,7 @@ fn put_run(out: &mut [u8], at: usize, net: &[u16], trace: &[u8]) -> usize {
     let tally = Tally {
         cycles: 0,
         rejected: 0,
+        checked: 0,
     };
     let started = simulator::start(net, &mut latches, tally);
     let ran = simulator::run(

@@ -53,7 +53,7 @@ module _ (text trace : Bytes) (before : List ℕ) where
     wrong l (suc k) e d = wrong-line g k (refl, refl) refl is l (trace-means n trace .first k e)
 
     done : length trace ≤ 1048576 → faultOf n trace ≡ 0 → length bytes ≤ length before
-        → Holds (judgeEnd (Done (record { cycles = length cycles; rejected = countRejected g cycles }) (verdictOf bytes)) (bytes ++ drop (length bytes) before))
+        → Holds (judgeEnd (Done (record { cycles = length cycles; rejected = countRejected g cycles; checked = 0 }) (verdictOf bytes)) (bytes ++ drop (length bytes) before))
     done l e room =
         let same = verdicts-length g [] cycles in
         judged g cycles (verdictOf bytes) refl (ap (λ (k : ℕ). bytes ++ drop k before) same) is (is-trace l e) (omega (arith, same, room)) (verdict-of-paths g [] cycles)
@@ -67,7 +67,7 @@ module _ (text trace : Bytes) (before : List ℕ) where
             cond (not s) (judgeEnd (Refused (cause.Trace TraceTooLong)) before)
             (cond (not f) (judgeEnd (Refused (cause.Trace (WrongLine (faultOf n trace)))) before)
             (cond (not r) (judgeEnd (Refused (cause.Trace ShortBuffer)) before)
-            (judgeEnd (Done (record { cycles = length cycles; rejected = countRejected g cycles }) (verdictOf bytes)) (bytes ++ drop (length bytes) before))))
+            (judgeEnd (Done (record { cycles = length cycles; rejected = countRejected g cycles; checked = 0 }) (verdictOf bytes)) (bytes ++ drop (length bytes) before))))
             )
         go false l f e r m = too-long g (refl, refl) refl is (leb-false (length trace) 1048576 l)
         go true l false e r m = wrong (leb-true (length trace) 1048576 l) (faultOf n trace) refl (eqb-false (faultOf n trace) 0 e)
@@ -79,11 +79,11 @@ module _ (text trace : Bytes) (before : List ℕ) where
   text-holds : (o : Outcome) → graphOf text ≡ o → Holds (judgeAs o trace before)
   unfolding judgeAs refusalOf build.refusalOf
   text-holds (refused c) e = no-graph c (refl, refl) refl e
-  text-holds (accepted g) e = go (leb (variablesOf g) 4095) refl
+  text-holds (accepted g) e = go (leb (variablesOf false g) 4095) refl
     where
-      go : (b : Bool) → leb (variablesOf g) 4095 ≡ b → Holds (cond b (traceJudged g trace before) (judgeEnd (Refused (cause.Graph TooManyVariables)) before))
-      go true l = trace-holds g (record { read = e; small = leb-true (variablesOf g) 4095 l })
-      go false l = too-large g (refl, refl) refl e (leb-false (variablesOf g) 4095 l)
+      go : (b : Bool) → leb (variablesOf false g) 4095 ≡ b → Holds (cond b (traceJudged g trace before) (judgeEnd (Refused (cause.Graph TooManyVariables)) before))
+      go true l = trace-holds g (record { read = e; small = leb-true (variablesOf false g) 4095 l })
+      go false l = too-large g (refl, refl) refl e (leb-false (variablesOf false g) 4095 l)
 
   judge-means : {answer : Judged} {after : List ℕ} → judgeEnd answer after ≡ judgeOf text trace before
       → JudgeMeans text trace before after (RefusedFor answer) (GivenAs answer)

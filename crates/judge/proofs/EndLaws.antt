@@ -51,7 +51,7 @@ module _ (g : Graph) (trace : Bytes) (buffer : List ℕ) where
   judged = paths.verdicts g [] cycles
 
   abbrev done : JudgeEnd
-  done = judgeEnd (Done (record { cycles = length cycles; rejected = countRejected g cycles }) (verdictOf judged)) (judged ++ drop (length judged) buffer)
+  done = judgeEnd (Done (record { cycles = length cycles; rejected = countRejected g cycles; checked = 0 }) (verdictOf judged)) (judged ++ drop (length judged) buffer)
 
   abbrev wrong : JudgeEnd
   wrong = judgeEnd (Refused (cause.Trace (WrongLine (faultOf (inputsOf g) trace)))) buffer
@@ -101,7 +101,7 @@ module _ (text trace : Bytes) (buffer : List ℕ) where
 
       go : (o : Outcome) → f (judgeAs o trace buffer) ≡ graphEnd accept refuse o
       go (refused c) = r (GraphText c)
-      go (accepted g) = by (leb (variablesOf g) 4095) _ _ _ _ (a g) (r TooManyVariables)
+      go (accepted g) = by (leb (variablesOf false g) 4095) _ _ _ _ (a g) (r TooManyVariables)
 
   all-within : cyclesIn (judgeOf text trace buffer .answer) ≤ length buffer
   unfolding judgeOf judgeAs cyclesIn
@@ -114,7 +114,7 @@ module _ (text trace : Bytes) (buffer : List ℕ) where
 
       go : (o : Outcome) → cyclesIn (judgeAs o trace buffer .answer) ≤ length buffer
       go (refused c) = omega arith
-      go (accepted g) = by (leb (variablesOf g) 4095) (traceJudged g trace buffer) TooManyVariables (trace-within g trace buffer)
+      go (accepted g) = by (leb (variablesOf false g) 4095) (traceJudged g trace buffer) TooManyVariables (trace-within g trace buffer)
 
   pub done-within : {r : Judged} {left : List ℕ} → judgeEnd r left ≡ judgeOf text trace buffer → {t : Tally} {v : Verdict} → r ≡ Done t v
       → t .cycles ≤ length buffer

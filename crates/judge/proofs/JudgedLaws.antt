@@ -27,12 +27,12 @@ use Rattle.builder.specs.Build.{buildEnd, buildOf}
 use Rattle.builder.specs.Claims.{BuildMeans}
 use Rattle.calls.specs.declared.refusal.Cause as calls
 use Rattle.calls.specs.declared.refusal.Cause.the-variants.{TraceTooLong, WrongLine, ShortBuffer, FullTally}
-use Rattle.calls.specs.declared.refusal.Checked.{Checked}
-use Rattle.calls.specs.declared.refusal.Checked.the-variants.{Passed, Failed}
+use Rattle.calls.specs.declared.refusal.Tested.{Tested}
+use Rattle.calls.specs.declared.refusal.Tested.the-variants.{Passed, Failed}
 use Rattle.calls.specs.declared.tally.Tally.{Tally}
 use Rattle.calls.specs.Tallies.{cleared, hasRoom}
 use Rattle.calls.specs.Refusals.{isShort, hasLatches, hasValues, startCheck, runCheck}
-use Rattle.calls.proofs.TallyLaws.{room}
+use Rattle.calls.proofs.TallyLaws.{fits-room}
 use Rattle.trace.specs.Traces.{faultOf, lineCount, cyclesOf}
 use Rattle.trace.proofs.TraceLaws.{lines-fit, length-cycles}
 use Rattle.simulator.specs.declared.outcome.StartOutcome.the-variants.{Ready}
@@ -84,15 +84,15 @@ module _ (net trace : List ℕ) (netlist : isNetlist net ≡ true) (lent values 
 
   started : startOf net lent cleared .answer .outcome ≡ Ready
   unfolding startOf startAs
-  started = ap (λ (c : Checked). startAs c net lent cleared .answer .outcome) starts
+  started = ap (λ (c : Tested). startAs c net lent cleared .answer .outcome) starts
 
   start-tally : tally ≡ cleared
   unfolding startOf startAs
-  start-tally = ap (λ (c : Checked). startAs c net lent cleared .answer .tally) starts
+  start-tally = ap (λ (c : Tested). startAs c net lent cleared .answer .tally) starts
 
   start-latches : latches ≡ startWords net (latchCount net) ++ drop (latchCount net) lent
   unfolding startOf startAs
-  start-latches = ap (λ (c : Checked). startAs c net lent cleared .latches) starts
+  start-latches = ap (λ (c : Tested). startAs c net lent cleared .latches) starts
 
   start-enough : latchCount net ≤ length latches
   start-enough =
@@ -109,9 +109,9 @@ module _ (net trace : List ℕ) (netlist : isNetlist net ≡ true) (lent values 
   has-room short =
       let two : lines * 2 ≤ lines * (inputCount net + 1) = mul-le-mul-left lines (omega (arith, held .some)) in
       let most : lines ≤ 1048576 = omega (arith, two, lines-fit (inputCount net) trace, leb-true (length trace) 1048576 short) in
-      room cleared lines (omega arith) (omega arith)
+      fits-room cleared lines (omega arith, omega arith, omega arith)
 
-  abbrev judged-as : Bool → Bool → Bool → Checked
+  abbrev judged-as : Bool → Bool → Bool → Tested
   judged-as s f l = cond (not s) (Failed TraceTooLong) (cond (not f) (Failed (WrongLine fault)) (cond (not l) (Failed ShortBuffer) Passed))
 
   checked : runCheck net trace (length latches) (length values) (length bytes) cleared ≡ judged-as (isShort trace) (eqb fault 0) (leb lines (length bytes))
@@ -141,9 +141,9 @@ module _ (net trace : List ℕ) (netlist : isNetlist net ≡ true) (lent values 
   stopped : {c : calls.Cause} → runCheck net trace (length latches) (length values) (length bytes) tally ≡ Failed c
       → judgedRun ending ≡ judgeEnd (Refused (cause.Trace c)) bytes
   unfolding runOf runAs outcomeJudged
-  stopped e = ap (λ (k : Checked). judgedRun (runAs k net trace latches values bytes tally)) e
+  stopped e = ap (λ (k : Tested). judgedRun (runAs k net trace latches values bytes tally)) e
 
-  module _ (g : Graph) (made : ℕ) (demand : Demand3 g net made) where
+  module _ (g : Graph) (made : ℕ) (demand : Demand3 false g net made) where
     abbrev judged : List ℕ
     judged = paths.verdicts g [] cycles
 
@@ -160,7 +160,7 @@ module _ (net trace : List ℕ) (netlist : isNetlist net ≡ true) (lent values 
       given = ap (λ (o : RunOutcome). runGives o (inputCount net) trace) outcome
 
       -- what demand 3 says of the one run
-      counted : Counted g net [] (keptBy (startOf net lent cleared)) (runCall trace values bytes ∷ [])
+      counted : Counted false g net [] (keptBy (startOf net lent cleared)) (runCall trace values bytes ∷ [])
       counted = demand .counted lent cleared started (runCall trace values bytes ∷ [])
 
       cycles-right : ending .answer .tally .cycles ≡ length cycles
@@ -170,6 +170,10 @@ module _ (net trace : List ℕ) (netlist : isNetlist net ≡ true) (lent values 
       rejected-right : ending .answer .tally .rejected ≡ countRejected g cycles
       unfolding Counted called
       rejected-right = counted .2 .1 ∙ ap (countRejected g) given
+
+      checked-right : ending .answer .tally .checked ≡ 0
+      unfolding Counted called
+      checked-right = counted .2 .2
 
       bytes-right : take (length cycles) (ending .verdicts) ≡ judged
       unfolding Counted BytesRight called
@@ -183,14 +187,15 @@ module _ (net trace : List ℕ) (netlist : isNetlist net ≡ true) (lent values 
           ∙ ap (take (length cycles)) (sym (run-verdicts net trace latches values bytes tally passed))
           ∙ bytes-right
 
-      ended : judgedRun ending ≡ judgeEnd (Done (record { cycles = length cycles; rejected = countRejected g cycles }) (verdictOf judged)) (judged ++ drop (length cycles) bytes)
+      ended : judgedRun ending ≡ judgeEnd (Done (record { cycles = length cycles; rejected = countRejected g cycles; checked = 0 }) (verdictOf judged)) (judged ++ drop (length cycles) bytes)
       unfolding outcomeJudged
       ended =
           ap (λ (o : RunOutcome). judgeEnd (outcomeJudged o (ending .answer .tally)) (ending .verdicts)) outcome
-          ∙ ap₂ (λ (c r : ℕ). judgeEnd (Done (record { cycles = c; rejected = r }) (verdictOf found)) (ending .verdicts)) cycles-right rejected-right
-          ∙ ap (λ (v : List ℕ). judgeEnd (Done (record { cycles = length cycles; rejected = countRejected g cycles }) (verdictOf found)) v)
+          ∙ ap₂ (λ (c r : ℕ). judgeEnd (Done (record { cycles = c; rejected = r; checked = ending .answer .tally .checked }) (verdictOf found)) (ending .verdicts)) cycles-right rejected-right
+          ∙ ap (λ (k : ℕ). judgeEnd (Done (record { cycles = length cycles; rejected = countRejected g cycles; checked = k }) (verdictOf found)) (ending .verdicts)) checked-right
+          ∙ ap (λ (v : List ℕ). judgeEnd (Done (record { cycles = length cycles; rejected = countRejected g cycles; checked = 0 }) (verdictOf found)) v)
           (run-verdicts net trace latches values bytes tally passed)
-          ∙ ap (λ (b : List ℕ). judgeEnd (Done (record { cycles = length cycles; rejected = countRejected g cycles }) (verdictOf b)) (b ++ drop (length cycles) bytes))
+          ∙ ap (λ (b : List ℕ). judgeEnd (Done (record { cycles = length cycles; rejected = countRejected g cycles; checked = 0 }) (verdictOf b)) (b ++ drop (length cycles) bytes))
           found-right
 
     run-judged : inputCount net ≡ inputsOf g → judgedRun ending ≡ traceJudged g trace bytes
@@ -204,7 +209,7 @@ module _ (net trace : List ℕ) (netlist : isNetlist net ≡ true) (lent values 
             ≡ cond (not s) (judgeEnd (Refused (cause.Trace TraceTooLong)) bytes)
             (cond (not f) (judgeEnd (Refused (cause.Trace (WrongLine fault))) bytes)
             (cond (not l) (judgeEnd (Refused (cause.Trace ShortBuffer)) bytes)
-            (judgeEnd (Done (record { cycles = lines; rejected = countRejected g cycles }) (verdictOf judged)) (judged ++ drop lines bytes))))
+            (judgeEnd (Done (record { cycles = lines; rejected = countRejected g cycles; checked = 0 }) (verdictOf judged)) (judged ++ drop lines bytes))))
         go false f l e = stopped e
         go true false l e = stopped e
         go true true false e = stopped e
@@ -222,7 +227,7 @@ machine-end net trace bytes starts runs = ap judgedRun runs ∙ ap (λ (s : Star
     after s = runOf net trace (s .latches) (replicate 4096 0) bytes (s .answer .tally)
 
 -- ---- a build into a buffer that has room for every netlist, as it answered and left
-module _ (text trace : Bytes) (bytes : List ℕ) {room : List ℕ} (means : BuildMeans text room) {r : Built} {net : List ℕ} (e : buildEnd r net ≡ buildOf text room)
+module _ (text trace : Bytes) (bytes : List ℕ) {room : List ℕ} (means : BuildMeans false text room) {r : Built} {net : List ℕ} (e : buildEnd r net ≡ buildOf false text room)
     (enough : 8194 ≤ length room) where
   abbrev refuse : builder.Cause → JudgeEnd
   refuse c = judgeEnd (Refused (cause.Graph c)) bytes
@@ -237,7 +242,7 @@ module _ (text trace : Bytes) (bytes : List ℕ) {room : List ℕ} (means : Buil
   unfolding machineJudged machineEnd inputsOf
   made-judged {made} h =
       let m = build-made room enough text made (build-answered text room e h) in
-      let demand : Demand3 (m .g) net made = rw (build-left text room e) at (made-demand room enough text made (build-answered text room e h) means) in
-      let inputs : inputCount net ≡ 1 + signalBits (m .g) = ap inputCount (sym (build-left text room e) ∙ m .net) ∙ inputs-are (m .g) (drop (length (numbersOf (m .g))) room) in
+      let demand : Demand3 false (m .g) net made = rw (build-left text room e) at (made-demand room enough text made (build-answered text room e h) means) in
+      let inputs : inputCount net ≡ 1 + signalBits (m .g) = ap inputCount (sym (build-left text room e) ∙ m .net) ∙ inputs-are (m .g) false (drop (length (numbersOf (m .g))) room) in
       run-judged net trace (demand .netlist) (replicate 4094 0) (replicate 4096 0) bytes (omega (arith, length-replicate {A = ℕ} 4094 0)) (omega (arith, length-replicate {A = ℕ} 4096 0)) (m .g) made demand inputs
       ∙ sym (by-graph ∙ made-end room enough text made (build-answered text room e h) (λ g. traceJudged g trace bytes) refuse)

@@ -1,6 +1,7 @@
 -- What the contract of judge claims of its answer and of the verdict buffer, without the tests of the definition. Assumes
 -- nothing.
 use mathlib.Core.Path.{_≡_}
+use mathlib.Core.Bool.{false}
 use mathlib.Core.List.{List, [], _++_}
 use Prim.Native.Nat.{ℕ, suc, _+_, _<_, _≤_}
 use lib.ListN.{length, drop}
@@ -24,7 +25,7 @@ use Rattle.judge.specs.Judge.{refusalOf}
 -- the text is that of this graph, whose circuit is not too large
 pub record IsGraph (text : Bytes) (g : Graph) : Type 0 where
   pub read : graphOf text ≡ accepted g
-  pub small : variablesOf g ≤ 4095
+  pub small : variablesOf false g ≤ 4095
 
 -- the trace is the lines of these cycles, each with init and the graph's signals, and not too long
 pub record IsTrace (g : Graph) (trace : Bytes) (cycles : List Bytes) : Type 0 where
@@ -39,7 +40,7 @@ pub data JudgeMeans (text trace before after : List ℕ) (Refuses : Cause → �
   no-graph : (c : graph.Cause) → Refuses (cause.Graph (GraphText c)) (reading.refusalOf c .number) (reading.refusalOf c .line) → after ≡ before
       → graphOf text ≡ refused c
       → JudgeMeans text trace before after Refuses Gives
-  too-large : (g : Graph) → Refuses (cause.Graph TooManyVariables) 11 0 → after ≡ before → graphOf text ≡ accepted g → 4095 < variablesOf g
+  too-large : (g : Graph) → Refuses (cause.Graph TooManyVariables) 11 0 → after ≡ before → graphOf text ≡ accepted g → 4095 < variablesOf false g
       → JudgeMeans text trace before after Refuses Gives
   too-long : (g : Graph) → Refuses (cause.Trace TraceTooLong) 1 0 → after ≡ before → IsGraph text g → 1048576 < length trace
       → JudgeMeans text trace before after Refuses Gives
@@ -60,6 +61,6 @@ pub data JudgeMeans (text trace before after : List ℕ) (Refuses : Cause → �
 abbrev pub RefusedFor : Judged → Cause → ℕ → ℕ → Type 0
 RefusedFor answer c number line = (answer ≡ Refused c) × (refusalOf c ≡ record { number = number; line = line })
 
--- and of a tally and a verdict
+-- and of a tally and a verdict; the circuit has no second output
 abbrev pub GivenAs : Judged → ℕ → ℕ → Verdict → Type 0
-GivenAs answer cycles rejected verdict = answer ≡ Done (record { cycles = cycles; rejected = rejected }) verdict
+GivenAs answer cycles rejected verdict = answer ≡ Done (record { cycles = cycles; rejected = rejected; checked = 0 }) verdict

@@ -1,6 +1,6 @@
 -- The judgement of a trace by a graph text, said by settings and paths: nothing here is built or run. A refusal leaves
 -- the verdict buffer as it was. Assumes nothing.
-use mathlib.Core.Bool.{cond, not}
+use mathlib.Core.Bool.{false, cond, not}
 use mathlib.Core.List.{List, [], _++_}
 use Prim.Native.Nat.{ℕ, _+_}
 use lib.Dec.{eqb, leb}
@@ -51,13 +51,13 @@ traceJudged g trace buffer =
     cond (not (isShort trace)) (judgeEnd (Refused (cause.Trace TraceTooLong)) buffer)
     (cond (not (eqb fault 0)) (judgeEnd (Refused (cause.Trace (WrongLine fault))) buffer)
     (cond (not (leb (length judged) (length buffer))) (judgeEnd (Refused (cause.Trace ShortBuffer)) buffer)
-    (judgeEnd (Done (record { cycles = length cycles; rejected = countRejected g cycles }) (verdictOf judged)) (judged ++ drop (length judged) buffer))))
+    (judgeEnd (Done (record { cycles = length cycles; rejected = countRejected g cycles; checked = 0 }) (verdictOf judged)) (judged ++ drop (length judged) buffer))))
 
 -- the graph text before the trace: refused as build refuses it
 unfoldable pub judgeAs : Outcome → Bytes → List ℕ → JudgeEnd
 judgeAs (refused c) trace buffer = judgeEnd (Refused (cause.Graph (GraphText c))) buffer
 judgeAs (accepted g) trace buffer =
-    cond (leb (variablesOf g) 4095) (traceJudged g trace buffer) (judgeEnd (Refused (cause.Graph TooManyVariables)) buffer)
+    cond (leb (variablesOf false g) 4095) (traceJudged g trace buffer) (judgeEnd (Refused (cause.Graph TooManyVariables)) buffer)
 
 unfoldable pub judgeOf : Bytes → Bytes → List ℕ → JudgeEnd
 judgeOf text trace buffer = judgeAs (graphOf text) trace buffer

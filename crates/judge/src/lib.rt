@@ -12,8 +12,8 @@ ghost use Rattle.judge.specs.Judge.{refusalOf, judgeEnd, judgeOf};
 ghost use Rattle.judge.specs.Claims.{JudgeMeans, RefusedFor, GivenAs};
 ghost use Rattle.judge.specs.Private.Machine.{machineJudged};
 
-// The most numbers of a netlist: five, two for each latch and gate, of which M = 4,095 leaves 4,094, and one for
-// the output.
+// The most numbers of a netlist with one output: five, two for each latch and gate, of which M = 4,095 leaves 4,094, and
+// one for the output.
 const MAX_NUMBERS: usize = 8194;
 
 // The most latch words and value words of a netlist.
@@ -57,6 +57,7 @@ fn judged_run(net: &[u16], trace: &[u8], verdicts: &mut [u8]) -> Judged
     let tally = Tally {
         cycles: 0,
         rejected: 0,
+        checked: 0,
     };
     let started = simulator::start(net, &mut latches, tally);
     let ran = simulator::run(
@@ -82,7 +83,7 @@ pub fn judge(graph: &[u8], trace: &[u8], verdicts: &mut [u8]) -> Judged
     ensures judges { λ r. ⌜ JudgeMeans (now (graph .entry)) (now (trace .entry)) (now (verdicts .entry)) (now (verdicts .exit)) (RefusedFor r) (GivenAs r) ⌝ }
 {
     let mut net = [0u16; MAX_NUMBERS];
-    let built = builder::build(graph, &mut net);
+    let built = builder::build(graph, false, &mut net);
     match built {
         Built::Gates(_) => judged_run(&net, trace, verdicts),
         Built::Refused(cause) => Judged::Refused(Cause::Graph(cause)),

@@ -1,5 +1,6 @@
 -- The calls that make, write and read a netlist: the return code, the buffer, and the result through its pointer,
 -- which a refusal leaves as it was. Answer and buffer are those of the call's own definition. Assumes nothing.
+use mathlib.Core.Bool.{Bool, true, false}
 use mathlib.Core.List.{List}
 use Prim.Native.Nat.{ℕ}
 use Rattle.builder.specs.Build as build
@@ -30,8 +31,15 @@ unfoldable pub buildAs : Built → List ℕ → ℕ → Filled
 buildAs (built.Gates n) net before = filled acceptedCode net n
 buildAs (built.Refused cause) net before = filled (codeOf (build.refusalOf cause)) net before
 
+unfoldable pub buildWith : Bool → List ℕ → List ℕ → ℕ → Filled
+buildWith checked graph net before = let e = buildOf checked graph net in buildAs (e .answer) (e .net) before
+
+-- the name of document 01, and that of document 02, No. 7, which adds checked
 unfoldable pub buildCall : List ℕ → List ℕ → ℕ → Filled
-buildCall graph net before = let e = buildOf graph net in buildAs (e .answer) (e .net) before
+buildCall graph net before = buildWith false graph net before
+
+unfoldable pub buildCheckedCall : List ℕ → List ℕ → ℕ → Filled
+buildCheckedCall graph net before = buildWith true graph net before
 
 -- ---- write: the result is the number of bytes
 unfoldable pub writeAs : Written → List ℕ → ℕ → Filled

@@ -2,7 +2,9 @@
 pub mod Codes
 pub mod Circuits
 pub mod Runs
+pub mod CheckedRuns
 pub mod Rates
 pub mod Sessions
 pub mod Pages
+pub mod CheckedClaims
 pub mod Claims

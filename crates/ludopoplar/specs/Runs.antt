@@ -1,6 +1,7 @@
 -- The calls that run a netlist: the return code, the buffers, the tally through its two pointers, and the result
 -- through its own, which a refusal leaves as it was. Answer, tally and buffers are those of the call's own
--- definition, which hands the tally back as it was where it refuses. Assumes nothing.
+-- definition, which hands the tally back as it was where it refuses. These are the names of document 01: the tally
+-- has no third number for them; one of 0 is lent, and dropped. Assumes nothing.
 use mathlib.Core.List.{List}
 use Prim.Native.Nat.{ℕ}
 use Rattle.calls.specs.declared.tally.Tally.{Tally}
@@ -20,7 +21,7 @@ use Rattle.ludopoplar.specs.Codes.{acceptedCode, codeOf}
 
 -- the tally of two numbers
 abbrev pub tallyOf : ℕ → ℕ → Tally
-tallyOf cycles rejected = record { cycles = cycles; rejected = rejected }
+tallyOf cycles rejected = record { cycles = cycles; rejected = rejected; checked = 0 }
 
 -- ---- start
 pub record StartCallEnd : Type 0 where
@@ -41,7 +42,7 @@ startCall net latches cycles rejected =
     let e = startOf net latches (tallyOf cycles rejected) in
     startCallEnd (startCode (e .answer .outcome)) (e .latches) (e .answer .tally .cycles) (e .answer .tally .rejected)
 
--- ---- step: the result is the output word
+-- ---- step: the result is the first output word
 pub record StepCallEnd : Type 0 where
   pub code : ℕ
   pub latches : List ℕ
@@ -54,11 +55,11 @@ abbrev pub stepCallEnd : ℕ → List ℕ → List ℕ → ℕ → ℕ → ℕ �
 stepCallEnd c l v y j w = record { code = c; latches = l; values = v; cycles = y; rejected = j; word = w }
 
 unfoldable pub stepCode : StepOutcome → ℕ
-stepCode (step.Output w) = acceptedCode
+stepCode (step.Output w c) = acceptedCode
 stepCode (step.Refused cause) = codeOf (refusalOf cause)
 
 unfoldable pub wordAfter : StepOutcome → ℕ → ℕ
-wordAfter (step.Output w) before = w
+wordAfter (step.Output w c) before = w
 wordAfter (step.Refused cause) before = before
 
 unfoldable pub stepCall : List ℕ → List ℕ → List ℕ → List ℕ → ℕ → ℕ → ℕ → StepCallEnd

@@ -1,12 +1,16 @@
 // The C interface: build, write, read, start, step, run, per million, broken check, broken line and session page as a
-// static library has them. Each function calls the one that it is named after and puts what that answers where C looks
-// for it. It returns 0 where the call is accepted, else number × 2^32 + line; results go through pointers, which a
-// refusal leaves as they were. Computes nothing itself. Exports that code, results, tally and buffers are those that
-// their definitions give; of a rate that its results are those of a division, the clause `divides` of
-// `ludo_per_million`; of a session that was measured twice what a code means and which line it is, the clauses `checks`
-// of `ludo_broken_check` and `first` of `ludo_broken_line`; of a session page what stands in its columns and that it
-// tells graph name and verdict bytes, the clauses `lays` and `tells` of `ludo_session_page`. `include/ludopoplar.h`
-// declares these functions to C.
+// static library has them; and, in the module checked, build with the second output, start, step and run with the
+// tally's third number. Each function calls the one that it is named after and puts what that answers where C looks for
+// it. It returns 0 where the call is accepted, else number × 2^32 + line; results go through pointers, which a refusal
+// leaves as they were. Computes nothing itself. Exports that code, results, tally and buffers are those that their
+// definitions give; of a rate that its results are those of a division, the clause `divides` of `ludo_per_million`; of
+// a session that was measured twice what a code means and which line it is, the clauses `checks` of `ludo_broken_check`
+// and `first` of `ludo_broken_line`; of a session page what stands in its columns and that it tells graph name and
+// verdict bytes, the clauses `lays` and `tells` of `ludo_session_page`; of a call with checked that returned 0 what it
+// left behind its pointers, the clauses `demand` of `ludo_build_checked`, `clears` of `ludo_start_checked`, `steps` of
+// `ludo_step_checked` and `runs` of `ludo_run_checked`. `include/ludopoplar.h` declares these functions to C.
+mod checked;
+
 use aiger::Written;
 use aiger_read::ReadOutcome;
 use builder::Built;
@@ -20,8 +24,10 @@ use simulator::StepOutcome;
 use simulator::Verdict;
 use text::Refusal;
 ghost use mathlib.Core.Path.{_≡_};
+ghost use mathlib.Core.Bool.{false};
 ghost use Rattle.ludopoplar.specs.Codes.{codeOf};
 ghost use Rattle.ludopoplar.specs.Circuits.{filled, buildCall, writeCall, readCall};
+ghost use Rattle.ludopoplar.specs.CheckedClaims.{CallBuilds};
 ghost use Rattle.ludopoplar.specs.Claims.{Numbered, CallDivides, CallChecks, CallFinds, CallLays, CallTells};
 ghost use Rattle.ludopoplar.specs.Runs.{verdictNumber, startCallEnd, startCall, stepCallEnd, stepCall, runCallEnd, runCall};
 ghost use Rattle.ludopoplar.specs.Rates.{rateCallEnd, rateCall};
@@ -55,9 +61,10 @@ fn verdict_number(verdict: Verdict) -> u64
 #[no_mangle]
 pub extern "C" fn ludo_build(graph: &[u8], net: &mut [u16], gates: &mut u64) -> u64
     ensures { λ r. ⌜ filled r (now (net .exit)) (now (gates .exit)) ≡ buildCall (now (graph .entry)) (now (net .entry)) (now (gates .entry)) ⌝ }
+    ensures demand { λ r. ⌜ (r ≡ 0 → CallBuilds false (now (graph .entry)) (now (net .entry)) (now (net .exit)) (now (gates .exit))) ⌝ }
     ensures numbered { λ _. ⌜ Numbered ⌝ }
 {
-    let built = builder::build(graph, net);
+    let built = builder::build(graph, false, net);
     match built {
         Built::Gates(made) => {
             *gates = made as u64;
@@ -110,6 +117,7 @@ pub extern "C" fn ludo_start(
     let tally = Tally {
         cycles: *cycles,
         rejected: *rejected,
+        checked: 0,
     };
     let started = simulator::start(net, latches, tally);
     *cycles = started.tally.cycles;
@@ -138,13 +146,14 @@ pub extern "C" fn ludo_step(
     let tally = Tally {
         cycles: *cycles,
         rejected: *rejected,
+        checked: 0,
     };
     let stepped = simulator::step(net, cycle, latches, values, tally);
     *cycles = stepped.tally.cycles;
     *rejected = stepped.tally.rejected;
     let outcome = stepped.outcome;
     match outcome {
-        StepOutcome::Output(output) => {
+        StepOutcome::Output(output, _) => {
             *word = output;
             ACCEPTED
         }
@@ -170,6 +179,7 @@ pub extern "C" fn ludo_run(
     let tally = Tally {
         cycles: *cycles,
         rejected: *rejected,
+        checked: 0,
     };
     let ran = simulator::run(net, trace, latches, values, verdicts, tally);
     *cycles = ran.tally.cycles;
@@ -195,7 +205,11 @@ pub extern "C" fn ludo_per_million(
     ensures { λ r. ⌜ rateCallEnd r (now (whole .exit)) (now (remainder .exit)) ≡ rateCall cycles rejected (now (whole .entry)) (now (remainder .entry)) ⌝ }
     ensures divides { λ r. ⌜ CallDivides cycles rejected (now (whole .entry)) (now (remainder .entry)) (rateCallEnd r (now (whole .exit)) (now (remainder .exit))) ⌝ }
 {
-    let rated = rate::per_million(Tally { cycles, rejected });
+    let rated = rate::per_million(Tally {
+        cycles,
+        rejected,
+        checked: 0,
+    });
     match rated {
         Rated::PerMillion(rate) => {
             *whole = rate.whole as u64;

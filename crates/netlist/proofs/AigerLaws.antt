@@ -128,4 +128,5 @@ means net =
             output = output-hom words bools (lane n) (lane-hom n h) net;
           };
       aiger = λ e ins latches hi hl. one-lane net (valid net e) ins latches hi hl;
+      outputs = λ e. (valid net e .output, valid net e .most);
     }

@@ -3,9 +3,9 @@
 use mathlib.Core.Path.{_≡_}
 use mathlib.Core.Bool.{Bool, true, false, _&&_}
 use mathlib.Core.List.{List, map}
-use Prim.Native.Nat.{ℕ, _+_, _<_}
+use Prim.Native.Nat.{ℕ, _+_, _<_, _≤_}
 use lib.ListN.{length, getD}
-use Rattle.netlist.specs.Layout.{maximum, inputCount, latchCount, gateCount, operandsAt, inputVariable, latchVariable, gateVariable}
+use Rattle.netlist.specs.Layout.{maximum, inputCount, latchCount, outputCount, gateCount, operandsAt, inputVariable, latchVariable, gateVariable}
 use Rattle.netlist.specs.Lanes.{lane}
 use Rattle.netlist.specs.Meaning.{bools, words, litOf, valuesOf, nextOf, outputOf}
 use Rattle.netlist.specs.Valid.{isNetlist}
@@ -36,3 +36,5 @@ pub record SameInLane (n : ℕ) (net : List ℕ) : Type 0 where
 pub record Means (net : List ℕ) : Type 0 where
   pub lanes : (n : ℕ) → n < 64 → SameInLane n net
   pub aiger : isNetlist net ≡ true → (ins latches : List Bool) → length ins ≡ inputCount net → length latches ≡ latchCount net → OneLane net ins latches
+  -- document 02, No. 7: "O may be 1 or 2"
+  pub outputs : isNetlist net ≡ true → (1 ≤ outputCount net) × (outputCount net ≤ 2)

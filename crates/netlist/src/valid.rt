@@ -18,6 +18,9 @@ const MAX_VARIABLES: u16 = 4095;
 // The most inputs.
 const MAX_INPUTS: u16 = 64;
 
+// The most outputs.
+const MAX_OUTPUTS: u16 = 2;
+
 // The most uninitialised latches: each of their settings has one of the 64 lanes.
 const MAX_FREE: u16 = 6;
 
@@ -40,7 +43,10 @@ fn header_ok(m: u16, i: u16, l: u16, o: u16, a: u16) -> bool
     if i > MAX_INPUTS {
         return false;
     }
-    o == 1
+    if o < 1 {
+        return false;
+    }
+    o <= MAX_OUTPUTS
 }
 
 // The outputs stand from `at` on; `last` is the netlist's largest literal.

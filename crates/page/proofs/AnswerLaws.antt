@@ -38,7 +38,7 @@ use Rattle.page.proofs.BuildLaws.{told, page-end, build-refused, made-n
 
 -- ---- a build into a buffer that has room for every netlist
 
-module _ (text : Bytes) {room : List ℕ} (means : BuildMeans text room) {r : Built} {net : List ℕ} (e : buildEnd r net ≡ buildOf text room)
+module _ (text : Bytes) {room : List ℕ} (means : BuildMeans false text room) {r : Built} {net : List ℕ} (e : buildEnd r net ≡ buildOf false text room)
     (enough : 8194 ≤ length room) where
   pub refused-text : (print : Graph → Bytes) {cause : Cause} → r ≡ Refused cause → refusedLine (refusalOf cause) ≡ graphPage (graphOf text) print
   refused-text print {cause} h = sym (build-refused room enough text print cause (build-answered text room e h))
@@ -66,7 +66,7 @@ module _ (show : Tally → Verdict → List ℕ → Bytes) where
       let fault = faultOf (inputsOf g) trace in
       let cycles = cyclesOf (inputsOf g) trace in
       let bytes = verdicts g [] cycles in
-      cond (eqb fault 0) (show (record { cycles = length cycles; rejected = countRejected g cycles }) (verdictOf bytes) bytes) (refusedLine (calls.refusalOf (WrongLine fault)))
+      cond (eqb fault 0) (show (record { cycles = length cycles; rejected = countRejected g cycles; checked = 0 }) (verdictOf bytes) bytes) (refusedLine (calls.refusalOf (WrongLine fault)))
 
   module _ (text trace : Bytes) (buffer : List ℕ) (short : length trace ≤ 1048576) (room : length trace ≤ length buffer * 2) where
     abbrev ofEnd : JudgeEnd → Bytes
@@ -83,7 +83,7 @@ module _ (show : Tally → Verdict → List ℕ → Bytes) where
         bytes = verdicts g [] cycles
 
         t : Tally
-        t = record { cycles = length cycles; rejected = countRejected g cycles }
+        t = record { cycles = length cycles; rejected = countRejected g cycles; checked = 0 }
 
         wrong : ℕ
         wrong = faultOf (inputsOf g) trace

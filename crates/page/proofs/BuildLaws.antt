@@ -35,24 +35,24 @@ page-end print (refused c) = refl
 page-end print (accepted g) = refl
 
 module _ (room : List ℕ) (enough : 8194 ≤ length room) (text : Bytes) where
-  pub build-refused : (print : Graph → Bytes) (cause : Cause) → buildOf text room .answer ≡ Refused cause
+  pub build-refused : (print : Graph → Bytes) (cause : Cause) → buildOf false text room .answer ≡ Refused cause
       → graphPage (graphOf text) print ≡ told cause
   build-refused print cause h = page-end print (graphOf text) ∙ judge.build-refused room enough print told cause text h
 
   -- ---- what demand 3 says of the numbers that an accepted build leaves
-  module _ (means : BuildMeans text room) (made : ℕ) (h : buildOf text room .answer ≡ Gates made) where
-    pub made-netlist : isNetlist (buildOf text room .net) ≡ true
+  module _ (means : BuildMeans false text room) (made : ℕ) (h : buildOf false text room .answer ≡ Gates made) where
+    pub made-netlist : isNetlist (buildOf false text room .net) ≡ true
     made-netlist = made-demand room enough text made h means .netlist
 
     -- surplus is no part of the file
-    pub made-file : fileOf (buildOf text room .net) ≡ graphPage (graphOf text) (λ g. fileOf (numbersOf g))
+    pub made-file : fileOf (buildOf false text room .net) ≡ graphPage (graphOf text) (λ g. fileOf (numbersOf g))
     unfolding fileOf
     made-file =
         let m = build-made room enough text made h in
         let g = m .g in
         let surplus = drop (length (numbersOf g)) room in
         let net = numbersOf g ++ surplus in
-        let size : sizeOf net ≡ length (numbersOf g) = omega (arith, numbers-length g, latch-count g surplus, outputs-are g surplus, gate-count g surplus) in
+        let size : sizeOf net ≡ length (numbersOf g) = omega (arith, numbers-length g, latch-count g false surplus, outputs-are g false surplus, gate-count g false surplus) in
         let front : take (sizeOf net) net ≡ numbersOf g = take-at (numbersOf g) surplus (sizeOf net) (sym size) in
         let page : graphPage (graphOf text) (λ x. fileOf (numbersOf x)) ≡ fileOf (numbersOf g) = page-end (λ x. fileOf (numbersOf x)) (graphOf text) ∙ made-end room enough text made h (λ x. fileOf (numbersOf x)) told in
         rw (page, m .net) (sym (trimmed-file net (λ k. false)) ∙ ap (λ (n : List ℕ). fileWith n (λ k. false)) front)

@@ -110,5 +110,5 @@ aigerRows =
 
 -- both programs print what the table says
 tables-hold : (printed monitorText monitorRows .found ≡ printed monitorText monitorRows .due) × (printed aigerText aigerRows .found ≡ printed aigerText aigerRows .due)
-unfolding numbers.digitsOf numbers.digits numbers.isDigit numbers.leadingDigits numbers.valueFrom classes.classOf classes.strengthOf classes.isLetter classes.isWordClass classes.startOf classes.run classes.nameBytes classes.isName grammar.andThen grammar.isIndex grammar.indexOf grammar.rightOf grammar.nameOf grammar.closed grammar.whole grammar.treeOf grammar.depthOf grammar.operandOf grammar.expressionOf grammar.restOf graph.isTerminal graph.bitsOf graph.signalBits graph.constantBits graph.input graph.isInit graph.bitHolds graph.alikeFrom graph.holds paths.rejectsAlong paths.rejectedUnder paths.isRejected paths.countRejected pieces.onto pieces.split pieces.same pieces.placeOf pieces.lookUp pieces.placed pieces.lookUpName records.moded records.numberTo records.widthOf records.sized records.named records.marked records.edged records.ofFields records.recordOf reading.faultNumber reading.refusalOf reading.known reading.fits reading.joined reading.symbol reading.runOf reading.resolved reading.judgedTree reading.treeExpr reading.lower reading.modeLines reading.addMode reading.addSignal reading.addConstant reading.addVertex reading.edgeOf reading.unlessFaulty reading.judgeEdge reading.addEdge reading.add reading.finished reading.readLines reading.graphOf literals.literalOf literals.variableOf literals.isInverted gates.inv gates.gate monitor.firstEdgeLatch monitor.firstGate monitor.bitLiteral monitor.alikeOf monitor.formula monitor.happyOr monitor.condemnedOr monitor.edgePiece monitor.masked monitor.gathered monitor.judged monitor.accepted monitor.gatesOf circuit.numbersOf build.refusalOf build.variablesOf rows.line rows.headerRow rows.literalRow rows.latchRow rows.gateRow format.inputLine format.latchLine format.outputLine format.gateLine format.fileWith format.fileOf traces.isBit traces.fitsLine traces.faultFrom traces.faultOf traces.lineCount traces.cyclesFrom traces.cyclesOf calls.refusalOf run.verdictOf parts.bytesBefore parts.graphPart parts.tracePart lines.field lines.refusedLine lines.rejectedLine lines.verdictField lines.sumLine lines.cycleLine lines.report pages.graphPage judge.inputsOf pages.judgement pages.tracePage pages.monitorText pages.aigerText
+unfolding numbers.digitsOf numbers.digits numbers.isDigit numbers.leadingDigits numbers.valueFrom classes.classOf classes.strengthOf classes.isLetter classes.isWordClass classes.startOf classes.run classes.nameBytes classes.isName grammar.andThen grammar.isIndex grammar.indexOf grammar.rightOf grammar.nameOf grammar.closed grammar.whole grammar.treeOf grammar.depthOf grammar.operandOf grammar.expressionOf grammar.restOf graph.isTerminal graph.bitsOf graph.signalBits graph.constantBits graph.input graph.isInit graph.bitHolds graph.alikeFrom graph.holds paths.rejectsAlong paths.rejectedUnder paths.isRejected paths.countRejected pieces.onto pieces.split pieces.same pieces.placeOf pieces.lookUp pieces.placed pieces.lookUpName records.moded records.numberTo records.widthOf records.sized records.named records.marked records.edged records.ofFields records.recordOf reading.faultNumber reading.refusalOf reading.known reading.fits reading.joined reading.symbol reading.runOf reading.resolved reading.judgedTree reading.treeExpr reading.lower reading.modeLines reading.addMode reading.addSignal reading.addConstant reading.addVertex reading.edgeOf reading.unlessFaulty reading.judgeEdge reading.addEdge reading.add reading.finished reading.readLines reading.graphOf literals.literalOf literals.variableOf literals.isInverted gates.inv gates.gate monitor.firstEdgeLatch monitor.firstGate monitor.bitLiteral monitor.alikeOf monitor.formula monitor.happyOr monitor.condemnedOr monitor.edgePiece monitor.masked monitor.gathered monitor.judged monitor.accepted monitor.gatesOf circuit.numbersWith build.refusalOf build.variablesOf rows.line rows.headerRow rows.literalRow rows.latchRow rows.gateRow format.inputLine format.latchLine format.outputLine format.gateLine format.fileWith format.fileOf traces.isBit traces.fitsLine traces.faultFrom traces.faultOf traces.lineCount traces.cyclesFrom traces.cyclesOf calls.refusalOf run.verdictOf parts.bytesBefore parts.graphPart parts.tracePart lines.field lines.refusedLine lines.rejectedLine lines.verdictField lines.sumLine lines.cycleLine lines.report pages.graphPage judge.inputsOf pages.judgement pages.tracePage pages.monitorText pages.aigerText
 tables-hold = (refl, refl)

@@ -189,17 +189,17 @@ module _ (g : Graph) (trace : Bytes) (short : length trace ≤ 65536) where
 
 -- ---- the page of a graph text
 module _ (text : Bytes) (print : Graph → Bytes) (most : ℕ) (some : 17 ≤ most)
-    (fits : (g : Graph) → graphOf text ≡ accepted g → variablesOf g ≤ 4095 → length (print g) ≤ most) where
+    (fits : (g : Graph) → graphOf text ≡ accepted g → variablesOf false g ≤ 4095 → length (print g) ≤ most) where
   refused-most : (cause : graph.Cause) → graphOf text ≡ refused cause → length (graphPage (refused cause) print) ≤ most
   unfolding graphPage build.refusalOf
   refused-most cause e = omega (arith, refused-length (reading.refusalOf cause) (graph-number cause) (graph-line text cause e))
 
   accepted-most : (g : Graph) → graphOf text ≡ accepted g → length (graphPage (accepted g) print) ≤ most
   unfolding graphPage build.refusalOf
-  accepted-most g e = go (leb (variablesOf g) 4095) refl
+  accepted-most g e = go (leb (variablesOf false g) 4095) refl
     where
-      go : (b : Bool) → leb (variablesOf g) 4095 ≡ b → length (cond b (print g) (refusedLine (build.refusalOf TooManyVariables))) ≤ most
-      go true l = fits g e (leb-true (variablesOf g) 4095 l)
+      go : (b : Bool) → leb (variablesOf false g) 4095 ≡ b → length (cond b (print g) (refusedLine (build.refusalOf TooManyVariables))) ≤ most
+      go true l = fits g e (leb-true (variablesOf false g) 4095 l)
       go false l = omega (arith, refused-length (build.refusalOf TooManyVariables) (omega arith) (omega arith))
 
   pub page-most : length (graphPage (graphOf text) print) ≤ most
@@ -235,17 +235,17 @@ module _ (input : Bytes) where
       go false l = omega (arith, refused-length (inputRefusal TooLong) (omega arith) (omega arith))
 
 -- ---- the page of AIGER text
-module _ (buffer : List ℕ) (enough : 8194 ≤ length buffer) (text : Bytes) (means : BuildMeans text buffer) where
-  builds : (g : Graph) → graphOf text ≡ accepted g → variablesOf g ≤ 4095 → buildOf text buffer .answer ≡ Gates (length (gatesOf g))
+module _ (buffer : List ℕ) (enough : 8194 ≤ length buffer) (text : Bytes) (means : BuildMeans false text buffer) where
+  builds : (g : Graph) → graphOf text ≡ accepted g → variablesOf false g ≤ 4095 → buildOf false text buffer .answer ≡ Gates (length (gatesOf g))
   unfolding buildOf buildAs
-  builds g e l = rw (e, le-leb (variablesOf g) 4095 l, le-leb (length (numbersOf g)) (length buffer) (omega (arith, numbers-most g l)))
+  builds g e l = rw (e, le-leb (variablesOf false g) 4095 l, le-leb (length (numbersOf g)) (length buffer) (omega (arith, numbers-most g l)))
 
-  file-most : (g : Graph) → graphOf text ≡ accepted g → variablesOf g ≤ 4095 → length (fileOf (numbersOf g)) ≤ 65536
+  file-most : (g : Graph) → graphOf text ≡ accepted g → variablesOf false g ≤ 4095 → length (fileOf (numbersOf g)) ≤ 65536
   unfolding graphPage fileOf
   file-most g e l =
       let h = builds g e l in
-      let net = buildOf text buffer .net in
-      let same : fileOf net ≡ fileOf (numbersOf g) = made-file buffer enough text means (length (gatesOf g)) h ∙ rw (e, le-leb (variablesOf g) 4095 l) in
+      let net = buildOf false text buffer .net in
+      let same : fileOf net ≡ fileOf (numbersOf g) = made-file buffer enough text means (length (gatesOf g)) h ∙ rw (e, le-leb (variablesOf false g) 4095 l) in
       omega (arith, ap length same, file-length net (made-netlist buffer enough text means (length (gatesOf g)) h) (λ k. false))
 
   pub aiger-fits : length (aigerText text) ≤ 65536

@@ -1,4 +1,5 @@
 -- The verdict on a page that is no refusal: `rejected` exactly if some path condemns one of the cycles. Assumes nothing.
+use mathlib.Core.Bool.{false}
 use mathlib.Core.Path.{_≡_, refl}
 use mathlib.Core.Logic.{inl, inr}
 use mathlib.Core.List.{List, []}
@@ -33,4 +34,4 @@ unfolding monitorText graphPage tracePage judgement
 judgement-means input g short read small right =
     let cycles = cyclesOf (inputsOf g) (tracePart input) in
     sum-means g cycles (monitorText input) (verdictOf (verdicts g [] cycles)) (verdict-of-paths g [] cycles)
-    (rw (le-leb (length input) 65536 short, read, le-leb (variablesOf g) 4095 small, right) refl)
+    (rw (le-leb (length input) 65536 short, read, le-leb (variablesOf false g) 4095 small, right) refl)

@@ -2,7 +2,7 @@
 -- refused only where it does not fit into the buffer. Which cycles are rejected is said by paths. Assumes nothing.
 use mathlib.Core.Path.{_≡_}
 use mathlib.Core.Logic.{_⊎_}
-use mathlib.Core.Bool.{cond}
+use mathlib.Core.Bool.{false, cond}
 use mathlib.Core.List.{List, [], _++_}
 use Prim.Native.Nat.{ℕ, _≤_}
 use lib.Dec.{eqb, leb}
@@ -44,7 +44,7 @@ inputRefusal TooLong = record { number = 1; line = 0 }
 -- the page of a graph text: refused as build refuses it, else what is printed of its graph
 unfoldable pub graphPage : Outcome → (Graph → Bytes) → Bytes
 graphPage (refused cause) print = refusedLine (build.refusalOf (GraphText cause))
-graphPage (accepted g) print = cond (leb (variablesOf g) 4095) (print g) (refusedLine (build.refusalOf TooManyVariables))
+graphPage (accepted g) print = cond (leb (variablesOf false g) 4095) (print g) (refusedLine (build.refusalOf TooManyVariables))
 
 -- ---- the monitor program
 -- the cycles that some setting and some rejecting path condemn, and the sum
@@ -74,7 +74,7 @@ pub record SumMeans (g : Graph) (cycles : List Bytes) (page : Bytes) : Type 0 wh
 
 abbrev pub JudgementMeans : Bytes → Type 0
 JudgementMeans input =
-    (g : Graph) → length input ≤ 65536 → graphOf (graphPart input) ≡ accepted g → variablesOf g ≤ 4095
+    (g : Graph) → length input ≤ 65536 → graphOf (graphPart input) ≡ accepted g → variablesOf false g ≤ 4095
     → faultOf (inputsOf g) (tracePart input) ≡ 0
     → SumMeans g (cyclesOf (inputsOf g) (tracePart input)) (monitorText input)
 

@@ -25,8 +25,8 @@ ghost use Rattle.page.specs.Pages.{refusalOf, inputRefusal, JudgementMea
 // The longest input of a program.
 const MAX_INPUT: usize = 65536;
 
-// The most numbers of a netlist: five, two for each latch and gate, of which M = 4,095 leaves 4,094, and one for
-// the output.
+// The most numbers of a netlist with one output: five, two for each latch and gate, of which M = 4,095 leaves 4,094, and
+// one for the output.
 const MAX_NUMBERS: usize = 8194;
 
 // The most cycles of a trace in a program's input, whose lines have two bytes at least.
@@ -153,7 +153,7 @@ pub fn aiger_page(input: &[u8], out: &mut [u8]) -> Paged
     ensures fits { λ _. ⌜ length (aigerText (now (input .entry))) ≤ 65536 ⌝ }
 {
     let mut net = [0u16; MAX_NUMBERS];
-    let built = builder::build(input, &mut net);
+    let built = builder::build(input, false, &mut net);
     match built {
         Built::Gates(_) => file_page(out, &net),
         Built::Refused(cause) => refused_page(out, cause.refusal()),

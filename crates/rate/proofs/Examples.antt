@@ -8,7 +8,7 @@ use Rattle.rate.specs.Rates.{refusalOf, hasNoRate, perMillion, rateOf}
 
 -- cycles, rejected
 abbrev rate : ℕ → ℕ → Rated
-rate c r = rateOf (record { cycles = c; rejected = r })
+rate c r = rateOf (record { cycles = c; rejected = r; checked = 0 })
 
 -- whole part, remainder
 abbrev parts : ℕ → ℕ → Rated

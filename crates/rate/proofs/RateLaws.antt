@@ -1,5 +1,5 @@
 -- Which tallies have a rate, and that whole part and remainder are those of a division. Assumes nothing.
-use mathlib.Core.Path.{_≡_, sym, _∙_}
+use mathlib.Core.Path.{_≡_, refl, sym, _∙_}
 use mathlib.Core.Bool.{or-true}
 use mathlib.Core.Logic.{⊎-elim}
 use Prim.Native.Nat.{_*_, _<_, _≤_}
@@ -47,3 +47,8 @@ divides t answer e =
       refused = ⊎-elim (λ none. e ∙ refused-none t none) (λ above. e ∙ refused-above t above);
       rated = λ some within. record { rate = perMillion t; answered = e ∙ rated t some within; division = division t some within };
     }
+
+-- the third number has no part in it
+pub rate-unchecked : (t : Tally) → rateOf t ≡ rateOf (record { cycles = t .cycles; rejected = t .rejected; checked = 0 })
+unfolding rateOf hasNoRate perMillion
+rate-unchecked t = refl

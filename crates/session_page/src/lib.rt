@@ -70,6 +70,7 @@ fn put_page(page: &mut [u8], name: &[u8], verdicts: &[u8], rejected: usize) -> u
     let tally = Tally {
         cycles: verdicts.len() as u32,
         rejected: rejected as u32,
+        checked: 0,
     };
     lines::put_last(page, p2, tally)
 }

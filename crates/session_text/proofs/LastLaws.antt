@@ -19,13 +19,13 @@ use Rattle.session_text.proofs.PieceLaws.{piece-at}
 record RateFields (cycles rejected : ℕ) : Type 0 where
   whole : ℕ
   remainder : ℕ
-  told : 0 < cycles → (rateFields (rateOf (record { cycles = cycles; rejected = rejected })) ≡ right 7 whole ++ right 10 remainder) × Division cycles rejected whole remainder
-  none : cycles ≡ 0 → rateFields (rateOf (record { cycles = cycles; rejected = rejected })) ≡ blanks 17
+  told : 0 < cycles → (rateFields (rateOf (record { cycles = cycles; rejected = rejected; checked = 0 })) ≡ right 7 whole ++ right 10 remainder) × Division cycles rejected whole remainder
+  none : cycles ≡ 0 → rateFields (rateOf (record { cycles = cycles; rejected = rejected; checked = 0 })) ≡ blanks 17
 
 rate-fields : (cycles rejected : ℕ) → rejected ≤ cycles → RateFields cycles rejected
 unfolding rateFields
 rate-fields cycles rejected most =
-    let t : Tally = record { cycles = cycles; rejected = rejected } in
+    let t : Tally = record { cycles = cycles; rejected = rejected; checked = 0 } in
     record {
       whole = perMillion t .whole;
       remainder = perMillion t .remainder;
@@ -35,7 +35,7 @@ rate-fields cycles rejected most =
 
 module _ (cycles rejected : ℕ) (few : cycles ≤ 524288) (most : rejected ≤ cycles) where
   abbrev rate : List ℕ
-  rate = rateFields (rateOf (record { cycles = cycles; rejected = rejected }))
+  rate = rateFields (rateOf (record { cycles = cycles; rejected = rejected; checked = 0 }))
 
   whole-field : (some : 0 < cycles) → Right 7 (rate-fields cycles rejected most .whole) (right 7 (rate-fields cycles rejected most .whole))
   whole-field some = widths 7 (rate-fields cycles rejected most .whole) (omega arith) (omega (arith, rate-fields cycles rejected most .told some .1 .most)) .field

@@ -41,9 +41,9 @@ unfoldable pub rateFields : Rated → List ℕ
 rateFields (PerMillion rate) = right 7 (rate .whole) ++ right 10 (rate .remainder)
 rateFields (Refused cause) = blanks 17
 
--- "a last line with rejected (10)", and these
+-- "a last line with rejected (10)", and these; a rate does not look at the third number
 unfoldable pub lastLine : ℕ → ℕ → List ℕ
-lastLine cycles rejected = row (right 10 rejected ++ rateFields (rateOf (record { cycles = cycles; rejected = rejected })))
+lastLine cycles rejected = row (right 10 rejected ++ rateFields (rateOf (record { cycles = cycles; rejected = rejected; checked = 0 })))
 
 unfoldable pub sessionPage : List ℕ → List ℕ → List ℕ
 sessionPage name verdicts =

@@ -56,7 +56,7 @@ module _ (text trace : Bytes) (buffer : List ℕ) (short : length trace ≤ 1048
       judged = verdicts g [] cycles
 
       t : Tally
-      t = record { cycles = length cycles; rejected = countRejected g cycles }
+      t = record { cycles = length cycles; rejected = countRejected g cycles; checked = 0 }
 
       wrong : JudgeEnd
       wrong = judgeEnd (Refused (Trace (WrongLine (faultOf (inputsOf g) trace)))) buffer
@@ -68,7 +68,7 @@ module _ (text trace : Bytes) (buffer : List ℕ) (short : length trace ≤ 1048
   same-end : (o : Outcome) → graphEnd (λ g. true) (λ c. true) o ≡ true
   unfolding graphEnd
   same-end (refused c) = refl
-  same-end (accepted g) = go (leb (variablesOf g) 4095)
+  same-end (accepted g) = go (leb (variablesOf false g) 4095)
     where
       go : (b : Bool) → cond b true true ≡ true
       go true = refl

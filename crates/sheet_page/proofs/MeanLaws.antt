@@ -92,7 +92,7 @@ module _ (r : Refusal) where
       → (o : Outcome) → graphPage o p ≡ refusedLine r → graphPage o q ≡ refusedLine r
   unfolding graphPage
   graph-alike p q alike (refused c) e = e
-  graph-alike p q alike (accepted g) e = go (leb (variablesOf g) 4095) e
+  graph-alike p q alike (accepted g) e = go (leb (variablesOf false g) 4095) e
     where
       many : Bytes
       many = refusedLine (build.refusalOf TooManyVariables)
@@ -109,10 +109,10 @@ module _ (r : Refusal) where
       (rw (le-leb (length rest) 65536 short) at e)
 
 -- ---- every other input has its sheet
-rest-judged : (name rest : Bytes) (g : Graph) → graphOf (graphPart rest) ≡ accepted g → variablesOf g ≤ 4095 → faultOf (inputsOf g) (tracePart rest) ≡ 0
+rest-judged : (name rest : Bytes) (g : Graph) → graphOf (graphPart rest) ≡ accepted g → variablesOf false g ≤ 4095 → faultOf (inputsOf g) (tracePart rest) ≡ 0
     → restSheet name rest ≡ sessionPage name (verdicts g [] (cyclesOf (inputsOf g) (tracePart rest)))
 unfolding graphPage traceSheet
-rest-judged name rest g read small right = rw (read, le-leb (variablesOf g) 4095 small, right)
+rest-judged name rest g read small right = rw (read, le-leb (variablesOf false g) 4095 small, right)
 
 few-judged : (g : Graph) (trace : Bytes) → length trace ≤ 65536 → length (verdicts g [] (cyclesOf (1 + signalBits g) trace)) ≤ 524288
 unfolding inputsOf
@@ -143,13 +143,13 @@ module _ (name rest : Bytes) where
   rest-refused c e = rw e
 
   module _ (g : Graph) (read : graphOf (graphPart rest) ≡ accepted g) where
-    rest-large : 4095 < variablesOf g → restSheet name rest ≡ refusedLine (build.refusalOf TooManyVariables)
+    rest-large : 4095 < variablesOf false g → restSheet name rest ≡ refusedLine (build.refusalOf TooManyVariables)
     unfolding graphPage
-    rest-large h = rw (read, lt-leb (variablesOf g) 4095 h)
+    rest-large h = rw (read, lt-leb (variablesOf false g) 4095 h)
 
-    rest-wrong : variablesOf g ≤ 4095 → (k : ℕ) → faultOf (inputsOf g) (tracePart rest) ≡ suc k → restSheet name rest ≡ refusedLine (record { number = 15; line = suc k })
+    rest-wrong : variablesOf false g ≤ 4095 → (k : ℕ) → faultOf (inputsOf g) (tracePart rest) ≡ suc k → restSheet name rest ≡ refusedLine (record { number = 15; line = suc k })
     unfolding graphPage traceSheet simulator.refusalOf
-    rest-wrong h k e = rw (read, le-leb (variablesOf g) 4095 h, e, ne-eqb (suc k) 0 (λ z. omega arith))
+    rest-wrong h k e = rw (read, le-leb (variablesOf false g) 4095 h, e, ne-eqb (suc k) 0 (λ z. omega arith))
 
 module _ (input : Bytes) (Prints : List ℕ → Type 0) (printed : Prints (sheetText input)) where
   prints : {page : List ℕ} → sheetText input ≡ page → Prints page
@@ -160,7 +160,7 @@ module _ (input : Bytes) (Prints : List ℕ → Type 0) (printed : Prints (sheet
     refusal : (r : Refusal) → restSheet name rest ≡ refusedLine r → PrintsRefusal (r .number) (r .line) Prints
     refusal r e = record { text = refusedLine r; told = refused-text r; printed = prints (named-sheet input n ∙ e) }
 
-    of-trace : (g : Graph) → graphOf (graphPart rest) ≡ accepted g → variablesOf g ≤ 4095 → (k : ℕ) → faultOf (inputsOf g) (tracePart rest) ≡ k → SheetMeans input Prints
+    of-trace : (g : Graph) → graphOf (graphPart rest) ≡ accepted g → variablesOf false g ≤ 4095 → (k : ℕ) → faultOf (inputsOf g) (tracePart rest) ≡ k → SheetMeans input Prints
     unfolding inputsOf
     of-trace g read small zero e =
         let lines = trace-means (1 + signalBits g) (tracePart rest) .whole e in
@@ -180,7 +180,7 @@ module _ (input : Bytes) (Prints : List ℕ → Type 0) (printed : Prints (sheet
         wrong-line name rest (graphPart rest) (tracePart rest) g k (refusal (record { number = 15; line = suc k }) (rest-wrong name rest g read small k e)) n (parts-are rest)
         read small (trace-means (1 + signalBits g) (tracePart rest) .first k e)
 
-    of-size : (g : Graph) → graphOf (graphPart rest) ≡ accepted g → Dec (variablesOf g ≤ 4095) → SheetMeans input Prints
+    of-size : (g : Graph) → graphOf (graphPart rest) ≡ accepted g → Dec (variablesOf false g ≤ 4095) → SheetMeans input Prints
     of-size g read (yes small) = of-trace g read small (faultOf (inputsOf g) (tracePart rest)) refl
     of-size g read (no large) =
         too-large name rest (graphPart rest) (tracePart rest) g (prints (named-sheet input n ∙ rest-large name rest g read (omega (arith, large)) ∙ large-line)) n (parts-are rest) read
@@ -188,7 +188,7 @@ module _ (input : Bytes) (Prints : List ℕ → Type 0) (printed : Prints (sheet
 
     of-graph : (o : Outcome) → graphOf (graphPart rest) ≡ o → SheetMeans input Prints
     of-graph (refused c) e = no-graph name rest (graphPart rest) (tracePart rest) c (refusal (reading.refusalOf c) (rest-refused name rest c e)) n (parts-are rest) e
-    of-graph (accepted g) e = of-size g e (decLe (variablesOf g) 4095)
+    of-graph (accepted g) e = of-size g e (decLe (variablesOf false g) 4095)
 
   -- ---- every input
   of-name : length input ≤ 65536 → (b : Bool) → hasName input ≡ b → SheetMeans input Prints

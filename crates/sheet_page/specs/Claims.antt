@@ -1,6 +1,7 @@
 -- What the contract of sheet_page claims of the page that is printed, by the bytes of the input and the page, and by what
 -- the monitor program prints, but not by the definitions that make the page. Assumes nothing.
 use mathlib.Core.Path.{_≡_}
+use mathlib.Core.Bool.{false}
 use mathlib.Core.List.{List, [], _∷_, _++_}
 use Prim.Native.Nat.{ℕ, suc, _+_, _<_, _≤_}
 use Prim.Native.Char.{code}
@@ -76,16 +77,16 @@ pub data SheetMeans (input : List ℕ) (Prints : List ℕ → Type 0) : Type 0 w
       → SheetMeans input Prints
   -- for the size of its circuit,
   too-large : (name rest graph trace : List ℕ) (g : Graph) → Prints (ascii "refused\t11\t0\n")
-      → Named input name rest → Parts rest graph trace → graphOf graph ≡ accepted g → 4095 < variablesOf g
+      → Named input name rest → Parts rest graph trace → graphOf graph ≡ accepted g → 4095 < variablesOf false g
       → SheetMeans input Prints
   -- for the first wrong line of its trace, counted from 1 after `T`
   wrong-line : (name rest graph trace : List ℕ) (g : Graph) (k : ℕ) → PrintsRefusal 15 (suc k) Prints
-      → Named input name rest → Parts rest graph trace → graphOf graph ≡ accepted g → variablesOf g ≤ 4095
+      → Named input name rest → Parts rest graph trace → graphOf graph ≡ accepted g → variablesOf false g ≤ 4095
       → FirstWrong (1 + signalBits g) k trace
       → SheetMeans input Prints
   -- every other input has its sheet, of the cycles that some setting and some rejecting path condemn
   sheet : (name rest graph trace : List ℕ) (g : Graph) (cycles : List (List ℕ)) → PrintsSheet name (verdicts g [] cycles) Prints
-      → Named input name rest → Parts rest graph trace → graphOf graph ≡ accepted g → variablesOf g ≤ 4095
+      → Named input name rest → Parts rest graph trace → graphOf graph ≡ accepted g → variablesOf false g ≤ 4095
       → trace ≡ linesOf cycles → Cycles (1 + signalBits g) cycles
       → SheetMeans input Prints
 

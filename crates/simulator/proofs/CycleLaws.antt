@@ -1,18 +1,21 @@
 -- Laws of one cycle: what the lent value words and latch words hold on the way, and at its end. Assumes nothing.
 use mathlib.Core.Path.{_≡_, refl, sym, ap, ap₂, _∙_}
+use mathlib.Core.Bool.{Bool, true, false, cond}
 use mathlib.Core.List.{List, [], _∷_, _++_, append-assoc, map}
 use Prim.Native.Nat.{ℕ, zero, suc, _+_, _*_, _<_, _≤_}
 use native.Mathlib.Nat.{add-zero}
 use native.Mathlib.Numerals.{add-one}
 use native.Mathlib.Omega.{arith}
+use lib.Dec.{eqb}
 use lib.ListN.{length, getD, set, take, drop, length-append, length-set, length-map, length-drop, take-append-drop, List·getD-map, List·getD-append}
 use lib.Seq.{length-take-le, drop-cons, set-at, paste, paste-suc, take-paste, drop-paste, length-paste, take-length, drop-drop, drop-at, take-at, drop-set-lt}
-use Rattle.netlist.specs.Layout.{maximum, inputCount, latchCount, gateCount, nextAt, outputAt, operandsAt, gateVariable}
+use borrow.Author.Tests.{eqb-true}
+use Rattle.netlist.specs.Layout.{maximum, inputCount, latchCount, outputCount, gateCount, nextAt, outputAt, operandsAt, gateVariable}
 use Rattle.netlist.specs.Literals.{variableOf}
 use Rattle.netlist.specs.Meaning.{Ops, words, litOf, bitOf, gateOf, gatesOf, front, valuesOf, nextsOf, nextOf, outputOf}
 use Rattle.netlist.proofs.ValidLaws.{Valid}
 use Rattle.netlist.proofs.MeaningLaws.{lit-same, length-gates, length-nexts}
-use Rattle.simulator.specs.Step.{cycleWords, outputWord, latchesAfter, valuesAfter}
+use Rattle.simulator.specs.Step.{cycleWords, outputWord, checkedWord, latchesAfter, valuesAfter}
 
 -- one value more behind those in front of a buffer
 pub grow : {A : Type 0} (z : A) (front : List A) (x : A) (b : List A) (n : ℕ) → length front ≡ n → n < length b
@@ -174,6 +177,11 @@ length-words net cycle latches valid len some =
     ∙ ap (λ (n : ℕ). n + gateCount net) (length-front cycle latches (latchCount net) some) ∙ omega (arith, valid .sum)
 
 -- ---- the end of a cycle
+-- the literal that stands where output k does has its word
+pub output-at : (net vs : List ℕ) (k at r : ℕ) → at ≡ outputAt net k → r ≡ litOf words vs (getD net at 0) → r ≡ outputOf words net k vs
+unfolding outputOf
+output-at net vs k at r ea er = er ∙ ap (λ (i : ℕ). litOf words vs (getD net i 0)) ea
+
 -- what is behind the variables is not read
 nexts-append : (net : List ℕ) (k : ℕ) (vs ws : List ℕ) → ((j : ℕ) → j < k → variableOf (getD net (nextAt j) 0) < length vs)
     → nextsOf words net k (vs ++ ws) ≡ nextsOf words net k vs
@@ -185,14 +193,27 @@ nexts-append net (suc k) vs ws h =
     (lit-append words vs ws (getD net (nextAt k) 0) (h k (omega arith)))
 
 module _ (net cycle latches vs : List ℕ) (v : Valid net) (len : length cycle ≡ inputCount net) (some : latchCount net ≤ length latches) where
-  pub output-is : (at r : ℕ) → at ≡ outputAt net 0 → (ws : List ℕ) → ws ≡ valuesAfter net cycle latches vs → r ≡ litOf words ws (getD net at 0)
-      → r ≡ outputWord net cycle latches
-  unfolding outputWord outputOf valuesAfter
-  output-is at r ea ws ew er =
-      let F = cycleWords net cycle latches in
+  -- output k reads nothing of what is behind the variables
+  output-same : (k : ℕ) → k < outputCount net → (ws : List ℕ) → ws ≡ valuesAfter net cycle latches vs
+      → outputOf words net k ws ≡ outputOf words net k (cycleWords net cycle latches)
+  unfolding outputOf valuesAfter
+  output-same k h ws ew =
       let n = length-words net cycle latches v len some in
-      er ∙ ap₂ (λ (w : List ℕ) (i : ℕ). litOf words w (getD net i 0)) ew ea
-      ∙ lit-append words F (drop (maximum net + 1) vs) (getD net (outputAt net 0) 0) (rw n (omega (arith, v .outputs 0 (omega (arith, v .single)))))
+      ap (λ (w : List ℕ). litOf words w (getD net (outputAt net k) 0)) ew
+      ∙ lit-append words (cycleWords net cycle latches) (drop (maximum net + 1) vs) (getD net (outputAt net k) 0) (rw n (omega (arith, v .outputs k h)))
+
+  pub output-is : (ws : List ℕ) → ws ≡ valuesAfter net cycle latches vs → (r : ℕ) → r ≡ outputOf words net 0 ws → r ≡ outputWord net cycle latches
+  unfolding outputWord
+  output-is ws ew r er = er ∙ output-same 0 (v .output) ws ew
+
+  pub checked-is : (ws : List ℕ) → ws ≡ valuesAfter net cycle latches vs → (r : ℕ) → r ≡ cond (eqb (outputCount net) 2) (outputOf words net 1 ws) 0
+      → r ≡ checkedWord net cycle latches
+  unfolding checkedWord
+  checked-is ws ew r er = er ∙ go (eqb (outputCount net) 2) refl
+    where
+      go : (b : Bool) → eqb (outputCount net) 2 ≡ b → cond b (outputOf words net 1 ws) 0 ≡ cond b (outputOf words net 1 (cycleWords net cycle latches)) 0
+      go true h = output-same 1 (omega (arith, eqb-true (outputCount net) 2 h)) ws ew
+      go false h = refl
 
   pub latches-are : (l : ℕ) → l ≡ latchCount net → (ws : List ℕ) → ws ≡ valuesAfter net cycle latches vs → (ls : List ℕ) → ls ≡ nextsOf words net l ws ++ drop l latches
       → ls ≡ latchesAfter net cycle latches

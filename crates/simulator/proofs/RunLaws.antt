@@ -9,15 +9,15 @@ use lib.ListN.{length, set, take, drop, length-append, length-drop}
 use lib.Seq.{drop-drop, length-take-le, take-at}
 use Rattle.netlist.specs.Layout.{inputCount}
 use Rattle.calls.specs.declared.refusal.Cause.{Cause}
-use Rattle.calls.specs.declared.refusal.Checked.{Checked}
-use Rattle.calls.specs.declared.refusal.Checked.the-variants.{Passed, Failed}
+use Rattle.calls.specs.declared.refusal.Tested.{Tested}
+use Rattle.calls.specs.declared.refusal.Tested.the-variants.{Passed, Failed}
 use Rattle.simulator.specs.declared.outcome.Verdict.{Verdict}
 use Rattle.simulator.specs.declared.outcome.RunOutcome.the-variants.{Done, Refused}
 use Rattle.calls.specs.declared.tally.Tally.{Tally}
 use Rattle.calls.specs.Tallies.{counted, hasRoom}
 use Rattle.trace.specs.Traces.{lineCount, cyclesFrom, cyclesOf}
 use Rattle.calls.specs.Refusals.{runCheck}
-use Rattle.simulator.specs.Step.{outputWord, latchesAfter, valuesAfter}
+use Rattle.simulator.specs.Step.{outputWord, checkedWord, latchesAfter, valuesAfter}
 use Rattle.simulator.specs.Run.{verdictByte, verdictOf, Running, running, runCycle, runCycles, runEnd, ranTo, runAs, runOf}
 use Rattle.calls.proofs.TallyLaws.{room-one, room-next}
 use Rattle.trace.proofs.TraceLaws.{lines-fit}
@@ -26,7 +26,7 @@ use Rattle.simulator.proofs.CycleLaws.{grow}
 
 -- ---- what a run answers and leaves
 module _ (net trace latches values verdicts : List ℕ) (t : Tally) where
-  pub run-refused : (c : Checked) (cause : Cause) → c ≡ runCheck net trace (length latches) (length values) (length verdicts) t → c ≡ Failed cause
+  pub run-refused : (c : Tested) (cause : Cause) → c ≡ runCheck net trace (length latches) (length values) (length verdicts) t → c ≡ Failed cause
       → runEnd (record { outcome = Refused cause; tally = t }) latches values verdicts ≡ runOf net trace latches values verdicts t
   unfolding runOf runAs
   run-refused c cause is e = rw (← is, e)
@@ -62,11 +62,12 @@ run-none net trace n count k at r h =
     let e : count - k ≡ 0 = omega arith in
     ap (λ (m : ℕ). runCycles net r (cyclesFrom n m (drop at trace))) e
 
-cycle-ran : (net cycle latches values bytes : List ℕ) (t : Tally) (w : ℕ) (ls vs : List ℕ) (b : ℕ) (t′ : Tally)
-    → w ≡ outputWord net cycle latches → ls ≡ latchesAfter net cycle latches → vs ≡ valuesAfter net cycle latches values → b ≡ verdictByte w → t′ ≡ counted t w
+cycle-ran : (net cycle latches values bytes : List ℕ) (t : Tally) (w d : ℕ) (ls vs : List ℕ) (b : ℕ) (t′ : Tally)
+    → w ≡ outputWord net cycle latches → d ≡ checkedWord net cycle latches → ls ≡ latchesAfter net cycle latches → vs ≡ valuesAfter net cycle latches values
+    → b ≡ verdictByte w → t′ ≡ counted t w d
     → running ls vs (bytes ++ (b ∷ [])) t′ ≡ runCycle net cycle (running latches values bytes t)
 unfolding runCycle
-cycle-ran net cycle latches values bytes t w ls vs b t′ ew el ev eb et = rw (eb, et, ew, el, ev)
+cycle-ran net cycle latches values bytes t w d ls vs b t′ ew ed el ev eb et = rw (eb, et, ew, ed, el, ev)
 
 module _ (net trace : List ℕ) (n count : ℕ) (latches₀ values₀ verdicts₀ : List ℕ) (t₀ : Tally) where
   -- the invariant: k bytes stand first in the verdict buffer, and what is still to run gives what the whole run gives
@@ -135,11 +136,11 @@ module _ (net trace : List ℕ) (n count : ℕ) (latches₀ values₀ verdicts�
         let e : count - k ≡ suc (count - (k + 1)) = omega arith in
         room-one t (count - (k + 1)) (rw e at (g .room))
 
-    pub going-next : Asked → k < count → (cycle : List ℕ) → cycle ≡ take n (drop at trace) → (w : ℕ) (ls vs : List ℕ)
-        → w ≡ outputWord net cycle latches → ls ≡ latchesAfter net cycle latches → vs ≡ valuesAfter net cycle latches values
-        → length ls ≡ length latches → length vs ≡ length values → (b : ℕ) → b ≡ verdictByte w → (t′ : Tally) → t′ ≡ counted t w
+    pub going-next : Asked → k < count → (cycle : List ℕ) → cycle ≡ take n (drop at trace) → (w d : ℕ) (ls vs : List ℕ)
+        → w ≡ outputWord net cycle latches → d ≡ checkedWord net cycle latches → ls ≡ latchesAfter net cycle latches → vs ≡ valuesAfter net cycle latches values
+        → length ls ≡ length latches → length vs ≡ length values → (b : ℕ) → b ≡ verdictByte w → (t′ : Tally) → t′ ≡ counted t w d
         → Going ls vs (set verdicts k b) t′ (at + (n + 1)) (k + 1)
-    going-next a h cycle ec w ls vs ew el ev ll lv b eb t′ et =
+    going-next a h cycle ec w d ls vs ew ed el ev ll lv b eb t′ et =
         let e : count - k ≡ suc (count - (k + 1)) = omega arith in
         let enough = bytes-enough a in
         let grown : set verdicts k b ≡ (g .bytes ++ (b ∷ [])) ++ drop (k + 1) verdicts₀ =
@@ -151,13 +152,13 @@ module _ (net trace : List ℕ) (n count : ℕ) (latches₀ values₀ verdicts�
           latches-length = ll ∙ g .latches-length;
           values-length = lv ∙ g .values-length;
           verdicts-length = ap length grown ∙ length-append (g .bytes ++ (b ∷ [])) (drop (k + 1) verdicts₀) ∙ rw (long, length-drop) (omega arith);
-          room = rw et (room-next t w (count - (k + 1)) (rw e at (g .room)));
+          room = rw et (room-next t w d (count - (k + 1)) (rw e at (g .room)));
           bytes = g .bytes ++ (b ∷ []);
           bytes-length = long;
           written = grown;
           same =
               ap (λ (r : Running). runCycles net r (cyclesFrom n (count - (k + 1)) (drop (at + (n + 1)) trace)))
-              (cycle-ran net cycle latches values (g .bytes) t w ls vs b t′ ew el ev eb et
+              (cycle-ran net cycle latches values (g .bytes) t w d ls vs b t′ ew ed el ev eb et
               ∙ ap (λ (x : List ℕ). runCycle net x (running latches values (g .bytes) t)) ec)
               ∙ sym (run-next net trace n count k at (running latches values (g .bytes) t) h)
               ∙ g .same;

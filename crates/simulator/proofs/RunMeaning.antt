@@ -8,7 +8,7 @@ use lib.Seq.{take-at}
 use Rattle.netlist.specs.Layout.{inputCount, latchCount}
 use Rattle.netlist.specs.Meaning.{Ops, words, bitOf, valuesOf, nextOf, outputOf}
 use Rattle.netlist.proofs.MeaningLaws.{length-nexts}
-use Rattle.calls.specs.declared.refusal.Checked.the-variants.{Passed}
+use Rattle.calls.specs.declared.refusal.Tested.the-variants.{Passed}
 use Rattle.simulator.specs.declared.outcome.RunOutcome.the-variants.{Done}
 use Rattle.calls.specs.declared.tally.Tally.{Tally}
 use Rattle.calls.specs.Refusals.{runCheck}

@@ -7,13 +7,13 @@ use lib.ListN.{length}
 use Rattle.netlist.specs.Layout.{maximum, inputCount, latchCount}
 use Rattle.netlist.specs.Valid.{isNetlist}
 use Rattle.netlist.proofs.ValidLaws.{valid}
-use Rattle.calls.specs.declared.refusal.Checked.the-variants.{Passed}
+use Rattle.calls.specs.declared.refusal.Tested.the-variants.{Passed}
 use Rattle.calls.specs.declared.tally.Tally.{Tally}
 use Rattle.calls.specs.Tallies.{hasRoom}
 use Rattle.trace.specs.Traces.{isCycle, cyclesOf}
 use Rattle.trace.specs.Claims.{Cycles}
 use Rattle.calls.specs.Refusals.{stepCheck}
-use Rattle.simulator.specs.Step.{StepEnd, outputWord}
+use Rattle.simulator.specs.Step.{StepEnd, outputWord, checkedWord}
 use Rattle.simulator.specs.Run.{Running, running, runCycle, runCycles}
 use Rattle.simulator.specs.Claims.{Steps, went, afterStep, oneMore, steps, RunIsSteps}
 use Rattle.calls.proofs.TallyLaws.{room-one, room-next}
@@ -43,7 +43,7 @@ module _ (net : List ℕ) (v : isNetlist net ≡ true) where
 
     room-stays : (n : ℕ) → hasRoom (r .tally) (suc n) ≡ true → hasRoom (runCycle net c r .tally) n ≡ true
     unfolding runCycle
-    room-stays n e = room-next (r .tally) (outputWord net c (r .latches)) n e
+    room-stays n e = room-next (r .tally) (outputWord net c (r .latches)) (checkedWord net c (r .latches)) n e
 
   cycles-steps : (cs : List (List ℕ)) (r : Running) → Cycles (inputCount net) cs → latchCount net ≤ length (r .latches) → maximum net + 1 ≤ length (r .values)
       → hasRoom (r .tally) (length cs) ≡ true → steps net (went r) cs ≡ went (runCycles net r cs)

@@ -1,7 +1,8 @@
--- A run and its trace: one too long is refused before all else, a wrong line is told, and a line told is the first wrong one. Assumes nothing.
+-- A run and its trace: one too long is refused before all else, a wrong line is told, a line told is the first wrong one, and the
+-- tally has room for its lines or the run is refused for it. Assumes nothing.
 use mathlib.Core.Path.{_≡_, refl, sym, ap, _∙_}
 use mathlib.Core.List.{List}
-use mathlib.Core.Bool.{true}
+use mathlib.Core.Bool.{true, true≢false}
 use Prim.Native.Nat.{ℕ, suc, _-_, _<_, _≤_}
 use native.Mathlib.Omega.{arith}
 use borrow.Author.Tests.{le-leb, ne-eqb}
@@ -9,15 +10,19 @@ use lib.ListN.{length}
 use Rattle.netlist.specs.Layout.{inputCount}
 use Rattle.netlist.specs.Valid.{isNetlist}
 use Rattle.calls.specs.declared.refusal.Cause.{Cause}
-use Rattle.calls.specs.declared.refusal.Cause.the-variants.{TraceTooLong, WrongLine, NotNetlist}
-use Rattle.calls.specs.declared.refusal.Checked.{Checked}
-use Rattle.calls.specs.declared.refusal.Checked.the-variants.{Passed, Failed}
+use Rattle.calls.specs.declared.refusal.Cause.the-variants.{TraceTooLong, WrongLine, NotNetlist, FullTally}
+use Rattle.calls.specs.declared.refusal.Tested.{Tested}
+use Rattle.calls.specs.declared.refusal.Tested.the-variants.{Passed, Failed}
 use Rattle.calls.specs.declared.tally.Tally.{Tally}
+use Rattle.calls.specs.Tallies.{Fits}
 use Rattle.calls.specs.Refusals.{isShort, runCheck}
-use Rattle.trace.specs.Traces.{faultOf}
+use Rattle.trace.specs.Traces.{faultOf, cyclesOf}
 use Rattle.trace.specs.Claims.{FirstWrong}
+use Rattle.trace.proofs.TraceLaws.{length-cycles}
 use Rattle.trace.proofs.LineLaws.{trace-means}
-use Rattle.calls.proofs.RefusalLaws.{run-too-long, run-wrong-line}
+use Rattle.calls.proofs.TallyLaws.{room-fits, fits-room}
+use Rattle.calls.proofs.RefusalLaws.{run-passed, run-too-long, run-wrong-line, run-full}
+use Rattle.simulator.specs.declared.outcome.Verdict.{Verdict}
 use Rattle.simulator.specs.declared.outcome.RunOutcome.{RunOutcome}
 use Rattle.simulator.specs.declared.outcome.RunOutcome.the-variants.{Done, Refused}
 use Rattle.simulator.specs.Run.{RunEnd, runEnd, ranTo, runAs, runOf}
@@ -30,7 +35,7 @@ causeIn (Done v) = NotNetlist
 causeIn (Refused cause) = cause
 
 module _ (net trace latches values verdicts : List ℕ) (t : Tally) where
-  abbrev check : Checked
+  abbrev check : Tested
   check = runCheck net trace (length latches) (length values) (length verdicts) t
 
   abbrev outcome : RunOutcome
@@ -53,17 +58,40 @@ module _ (net trace latches values verdicts : List ℕ) (t : Tally) where
   wrong-line j h n e = sym (run-refused net trace latches values verdicts t check (WrongLine (suc j)) refl (wrong-check j h n e))
 
   -- a refusal of the run is one of its tests
-  told-by : (c : Checked) (k : ℕ) → runAs c net trace latches values verdicts t .answer .outcome ≡ Refused (WrongLine k) → c ≡ Failed (WrongLine k)
+  told-by : (c : Tested) (cause : Cause) → runAs c net trace latches values verdicts t .answer .outcome ≡ Refused cause → c ≡ Failed cause
   unfolding runAs ranTo causeIn
-  told-by Passed k e = let z : _≡_ {A = ℕ} 0 1 = cc in absurd (omega arith)
-  told-by (Failed cause) k e = ap Failed (ap causeIn e)
+  told-by Passed cause e = let z : _≡_ {A = ℕ} 0 1 = cc in absurd (omega arith)
+  told-by (Failed told) cause e = ap Failed (ap causeIn e)
+
+  -- and a run with a verdict passed them
+  passed-by : (c : Tested) (v : Verdict) → runAs c net trace latches values verdicts t .answer .outcome ≡ Done v → c ≡ Passed
+  unfolding runAs
+  passed-by Passed v e = refl
+  passed-by (Failed cause) v e = let z : _≡_ {A = ℕ} 0 1 = cc in absurd (omega arith)
 
   first-wrong : (k : ℕ) → outcome ≡ Refused (WrongLine k) → (j : ℕ) × (k ≡ suc j) × FirstWrong (inputCount net) j trace
   unfolding runOf
   first-wrong k e =
-      let w = run-wrong-line net trace (length latches) (length values) (length verdicts) t k (told-by check k e) in
+      let w = run-wrong-line net trace (length latches) (length values) (length verdicts) t k (told-by check (WrongLine k) e) in
       let s : k ≡ suc (k - 1) = omega (arith, w .1) in
       (k - 1, s, trace-means (inputCount net) trace .first (k - 1) (w .0 ∙ s))
 
+  -- there is room for all lines in each number of the tally
+  fits : (v : Verdict) → outcome ≡ Done v → Fits t (length (cyclesOf (inputCount net) trace))
+  unfolding runOf
+  fits v e =
+      let r = run-passed net trace (length latches) (length values) (length verdicts) t (passed-by check v e) in
+      room-fits t _ (rw (length-cycles (inputCount net) trace) (r .room))
+
+  fits-not : outcome ≡ Refused FullTally → Fits t (length (cyclesOf (inputCount net) trace)) → ⊥
+  unfolding runOf
+  fits-not e f =
+      let no = run-full net trace (length latches) (length values) (length verdicts) t (told-by check FullTally e) in
+      true≢false (sym (rw (length-cycles (inputCount net) trace) at (fits-room t _ f)) ∙ no)
+
+  kept-as : (cause : Cause) → outcome ≡ Refused cause → runOf net trace latches values verdicts t ≡ refusedAs cause
+  unfolding runOf
+  kept-as cause e = sym (run-refused net trace latches values verdicts t check cause refl (told-by check cause e))
+
   pub trace-of-run : TraceOfRun net trace latches values verdicts t
-  trace-of-run = record { means = trace-means (inputCount net) trace; long = too-long; wrong = wrong-line; line = first-wrong }
+  trace-of-run = record { means = trace-means (inputCount net) trace; long = too-long; wrong = wrong-line; line = first-wrong; guarded = fits; full = fits-not; kept = kept-as }

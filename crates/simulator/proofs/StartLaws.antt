@@ -18,14 +18,14 @@ use Rattle.netlist.proofs.EachLaws.{each-at}
 use Rattle.netlist.proofs.LaneLaws.{lane-word, word-same}
 use Rattle.netlist.proofs.ValidLaws.{free-more, free-below}
 use Rattle.calls.specs.declared.refusal.Cause.{Cause}
-use Rattle.calls.specs.declared.refusal.Checked.{Checked}
-use Rattle.calls.specs.declared.refusal.Checked.the-variants.{Passed, Failed}
+use Rattle.calls.specs.declared.refusal.Tested.{Tested}
+use Rattle.calls.specs.declared.refusal.Tested.the-variants.{Passed, Failed}
 use Rattle.simulator.specs.declared.outcome.StartOutcome.the-variants.{Ready, Refused}
 use Rattle.calls.specs.declared.tally.Tally.{Tally}
 use Rattle.calls.specs.Tallies.{cleared}
 use Rattle.calls.specs.Refusals.{startCheck}
 use Rattle.calls.proofs.RefusalLaws.{start-passed}
-use Rattle.simulator.specs.Start.{startBit, startWords, startEnd, startAs, startOf}
+use Rattle.simulator.specs.Start.{startBit, startWords, StartEnd, startEnd, startAs, startOf}
 use Rattle.simulator.specs.Claims.{freeWord, WordsOfStart, StartMeans}
 use Rattle.simulator.proofs.CycleLaws.{grow}
 
@@ -156,7 +156,7 @@ module _ (net : List ℕ) (k n : ℕ) where
 
 -- ---- what a start answers and leaves
 module _ (net latches : List ℕ) (t : Tally) where
-  pub start-refused : (c : Checked) (cause : Cause) → c ≡ startCheck net (length latches) → c ≡ Failed cause
+  pub start-refused : (c : Tested) (cause : Cause) → c ≡ startCheck net (length latches) → c ≡ Failed cause
       → startEnd (record { outcome = Refused cause; tally = t }) latches ≡ startOf net latches t
   unfolding startOf startAs
   start-refused c cause is e = rw (← is, e)
@@ -166,7 +166,7 @@ module _ (net latches : List ℕ) (t : Tally) where
   unfolding startOf startAs
   start-is e = rw e
 
-  pub start-ready : (c : Checked) → c ≡ startCheck net (length latches) → c ≡ Passed → (l : ℕ) → l ≡ latchCount net → (ls : List ℕ) → ls ≡ startWords net l ++ drop l latches
+  pub start-ready : (c : Tested) → c ≡ startCheck net (length latches) → c ≡ Passed → (l : ℕ) → l ≡ latchCount net → (ls : List ℕ) → ls ≡ startWords net l ++ drop l latches
       → startEnd (record { outcome = Ready; tally = cleared }) ls ≡ startOf net latches t
   start-ready c is e l el ls els =
       ap (startEnd (record { outcome = Ready; tally = cleared })) (els ∙ ap (λ (i : ℕ). startWords net i ++ drop i latches) el) ∙ start-is (sym is ∙ e)
@@ -189,9 +189,15 @@ module _ (net latches : List ℕ) (t : Tally) where
       let b = lane-starts e n h k l in
       record { zeros = λ z. b ∙ bit-zero net k n z; ones = λ o. b ∙ bit-one net k n o; free = λ f. b ∙ bit-free net k n f }
 
+  kept-as : (c : Tested) (cause : Cause) → startAs c net latches t .answer .outcome ≡ Refused cause → startAs c net latches t ≡ startEnd (record { outcome = Refused cause; tally = t }) latches
+  unfolding startAs
+  kept-as Passed cause e = let z : _≡_ {A = ℕ} 0 1 = cc in absurd (omega arith)
+  kept-as (Failed told) cause e = let k : told ≡ cause = cc in rw k refl
+
   -- the words of the uninitialised latches are those that the formula gives
   pub start-computed : WordsOfStart net latches t
-  start-computed = record { lanes = free-word; free = words-free }
+  unfolding startOf
+  start-computed = record { lanes = free-word; free = words-free; clears = λ e. sym (ap (λ (x : StartEnd). x .answer .tally) (start-is e)); kept = kept-as (startCheck net (length latches)) }
     where
       words-free : startCheck net (length latches) ≡ Passed → (k : ℕ) → k < latchCount net → isFree net k ≡ true
           → (freeCount net k < 6) × (getD (startOf net latches t .latches) k 0 ≡ freeWord (freeCount net k))

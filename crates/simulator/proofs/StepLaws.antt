@@ -1,46 +1,51 @@
--- Laws of a step: what it answers and leaves, and what each lane of it shows. Assumes nothing.
+-- Laws of a step: what it answers and leaves, what each lane of it shows, and what it adds to the tally. Assumes nothing.
 use mathlib.Core.Path.{_≡_, refl, sym, ap, _∙_}
-use mathlib.Core.Bool.{Bool}
+use mathlib.Core.Bool.{Bool, true≢false}
 use mathlib.Core.List.{List, map}
 use Prim.Native.Nat.{ℕ, _+_, _<_}
+use native.Mathlib.Omega.{arith}
 use lib.ListN.{length, getD, take, drop, length-map, List·getD-append}
 use lib.Seq.{take-at, length-take-le}
-use Rattle.netlist.specs.Layout.{maximum, inputCount, latchCount, nextAt, outputAt}
+use Rattle.netlist.specs.Layout.{maximum, inputCount, latchCount, outputCount, nextAt, outputAt}
 use Rattle.netlist.specs.Lanes.{lane}
 use Rattle.netlist.specs.Meaning.{bools, words, bitOf, litOf, valuesOf, nextsOf, nextOf, outputOf}
+use Rattle.netlist.proofs.LaneLaws.{lane-zero}
 use Rattle.netlist.proofs.ValidLaws.{valid}
 use Rattle.netlist.proofs.MeaningLaws.{length-nexts, nexts-at, lane-hom, lit-hom, lane-inputs}
 use Rattle.netlist.proofs.AigerLaws.{means}
 use Rattle.calls.specs.declared.refusal.Cause.{Cause}
-use Rattle.calls.specs.declared.refusal.Checked.{Checked}
-use Rattle.calls.specs.declared.refusal.Checked.the-variants.{Passed, Failed}
+use Rattle.calls.specs.declared.refusal.Cause.the-variants.{FullTally}
+use Rattle.calls.specs.declared.refusal.Tested.{Tested}
+use Rattle.calls.specs.declared.refusal.Tested.the-variants.{Passed, Failed}
 use Rattle.simulator.specs.declared.outcome.StepOutcome.the-variants.{Output, Refused}
 use Rattle.calls.specs.declared.tally.Tally.{Tally}
 use Rattle.calls.specs.Tallies.{counted}
 use Rattle.calls.specs.Refusals.{stepCheck}
-use Rattle.simulator.specs.Step.{cycleWords, outputWord, latchesAfter, valuesAfter, StepEnd, stepEnd, stepAs, stepOf}
-use Rattle.simulator.specs.Claims.{LaneOfStep, StepMeans}
+use Rattle.simulator.specs.Step.{cycleWords, outputWord, checkedWord, latchesAfter, valuesAfter, StepEnd, stepEnd, stepAs, stepOf}
+use Rattle.simulator.specs.Claims.{LaneOfStep, StepMeans, StepCounts}
 use Rattle.trace.proofs.TraceLaws.{cycle-length}
-use Rattle.calls.proofs.RefusalLaws.{StepReady, step-passed}
+use Rattle.calls.proofs.TallyLaws.{room-fits, fits-room, cycle-more}
+use Rattle.calls.proofs.RefusalLaws.{StepReady, step-passed, step-full}
 use Rattle.simulator.proofs.CycleLaws.{length-words}
 
 module _ (net cycle latches values : List ℕ) (t : Tally) where
   -- ---- what a step answers and leaves
-  pub step-refused : (c : Checked) (cause : Cause) → c ≡ stepCheck net cycle (length latches) (length values) t → c ≡ Failed cause
+  pub step-refused : (c : Tested) (cause : Cause) → c ≡ stepCheck net cycle (length latches) (length values) t → c ≡ Failed cause
       → stepEnd (record { outcome = Refused cause; tally = t }) latches values ≡ stepOf net cycle latches values t
   unfolding stepOf stepAs
   step-refused c cause is e = rw (← is, e)
 
   pub step-is : stepCheck net cycle (length latches) (length values) t ≡ Passed
-      → stepEnd (record { outcome = Output (outputWord net cycle latches); tally = counted t (outputWord net cycle latches) }) (latchesAfter net cycle latches) (valuesAfter net cycle latches values)
+      → stepEnd (record { outcome = Output (outputWord net cycle latches) (checkedWord net cycle latches); tally = counted t (outputWord net cycle latches) (checkedWord net cycle latches) })
+      (latchesAfter net cycle latches) (valuesAfter net cycle latches values)
       ≡ stepOf net cycle latches values t
   unfolding stepOf stepAs
   step-is e = rw e
 
-  pub step-done : (c : Checked) → c ≡ stepCheck net cycle (length latches) (length values) t → c ≡ Passed → (w : ℕ) (ls vs : List ℕ) (t′ : Tally)
-      → w ≡ outputWord net cycle latches → ls ≡ latchesAfter net cycle latches → vs ≡ valuesAfter net cycle latches values → t′ ≡ counted t w
-      → stepEnd (record { outcome = Output w; tally = t′ }) ls vs ≡ stepOf net cycle latches values t
-  step-done c is e w ls vs t′ ew el ev et = rw (et, ew, el, ev) (step-is (sym is ∙ e))
+  pub step-done : (c : Tested) → c ≡ stepCheck net cycle (length latches) (length values) t → c ≡ Passed → (w d : ℕ) (ls vs : List ℕ) (t′ : Tally)
+      → w ≡ outputWord net cycle latches → d ≡ checkedWord net cycle latches → ls ≡ latchesAfter net cycle latches → vs ≡ valuesAfter net cycle latches values → t′ ≡ counted t w d
+      → stepEnd (record { outcome = Output w d; tally = t′ }) ls vs ≡ stepOf net cycle latches values t
+  step-done c is e w d ls vs t′ ew ed el ev et = rw (et, ew, ed, el, ev) (step-is (sym is ∙ e))
 
   -- ---- lane n of a step that is not refused
   module _ (r : StepReady net cycle (length latches) (length values) t) (n : ℕ) (h : n < 64) where
@@ -79,7 +84,11 @@ module _ (net cycle latches values : List ℕ) (t : Tally) where
     unfolding outputWord outputOf
     lane-output = lit-hom words bools (lane n) (lane-hom n h) W (getD net (outputAt net 0) 0)
 
-    shown : (e : StepEnd) → e .answer .outcome ≡ Output (outputWord net cycle latches) → e .latches ≡ latchesAfter net cycle latches → e .values ≡ valuesAfter net cycle latches values → LaneOfStep n net cycle latches e
+    lane-checked : outputCount net ≡ 2 → lane n (checkedWord net cycle latches) ≡ litOf bools (map (lane n) W) (getD net (outputAt net 1) 0)
+    unfolding checkedWord outputOf
+    lane-checked o = rw o (lit-hom words bools (lane n) (lane-hom n h) W (getD net (outputAt net 1) 0))
+
+    shown : (e : StepEnd) → e .answer .outcome ≡ Output (outputWord net cycle latches) (checkedWord net cycle latches) → e .latches ≡ latchesAfter net cycle latches → e .values ≡ valuesAfter net cycle latches values → LaneOfStep n net cycle latches e
     shown e eo el ev =
         let one = means net .aiger (r .netlist) ins held (length-map cycle (bitOf bools) ∙ cycle-length (inputCount net) cycle (r .bits)) (length-map (take (latchCount net) latches) (lane n) ∙ length-take-le (latchCount net) latches (r .latches)) in
         let same : map (lane n) (take (maximum net + 1) (e .values)) ≡ valuesOf bools net ins held = ap (λ (x : List ℕ). map (lane n) (take (maximum net + 1) x)) ev ∙ lane-front in
@@ -89,13 +98,49 @@ module _ (net cycle latches values : List ℕ) (t : Tally) where
           only = λ v s. one .only v s ∙ sym same;
           next = λ k l. ap (λ (x : List ℕ). lane n (getD x k 0)) el ∙ lane-next k l ∙ ap (λ (x : List Bool). litOf bools x (getD net (nextAt k) 0)) (sym front);
           word = outputWord net cycle latches;
+          second = checkedWord net cycle latches;
           answered = eo;
           output = lane-output ∙ ap (λ (x : List Bool). litOf bools x (getD net (outputAt net 0) 0)) (sym front);
+          checked = λ o. lane-checked o ∙ ap (λ (x : List Bool). litOf bools x (getD net (outputAt net 1) 0)) (sym front);
         }
 
-  -- in every lane a step is the one valuation that AIGER's equations allow, and the latches and the output follow from it
+  -- in every lane a step is the one valuation that AIGER's equations allow, and the latches and the outputs follow from it
   pub step-means : StepMeans net cycle latches values t
   step-means e n h =
       let s = step-is e in
       shown (step-passed net cycle (length latches) (length values) t (stepCheck net cycle (length latches) (length values) t) refl e) n h (stepOf net cycle latches values t)
       (sym (ap (λ (x : StepEnd). x .answer .outcome) s)) (sym (ap (λ (x : StepEnd). x .latches) s)) (sym (ap (λ (x : StepEnd). x .values) s))
+
+  -- ---- the tally
+  none : outputCount net ≡ 1 → checkedWord net cycle latches ≡ 0
+  unfolding checkedWord
+  none o = rw o
+
+  counts-as : (k : Tested) → stepCheck net cycle (length latches) (length values) t ≡ k → StepCounts net latches values t (stepAs k net cycle latches values t)
+  unfolding stepAs
+  counts-as Passed is =
+      let ow = outputWord net cycle latches in
+      let cw = checkedWord net cycle latches in
+      let more = cycle-more t ow cw in
+      record {
+        counts = λ w c e. let ew : ow ≡ w = cc in let ec : cw ≡ c = cc in rw (← ew, ← ec) more;
+        one-output = λ w c e o. let ec : cw ≡ c = cc in (sym ec ∙ none o, more .unchecked (λ n l. ap (lane n) (none o) ∙ lane-zero n));
+        guarded = λ w c e. room-fits t 1 (step-passed net cycle (length latches) (length values) t _ (sym is) refl .room);
+        full = λ e. let z : _≡_ {A = ℕ} 0 1 = cc in absurd (omega arith);
+        kept = λ cause e. let z : _≡_ {A = ℕ} 0 1 = cc in absurd (omega arith);
+      }
+  counts-as (Failed cause) is =
+      record {
+        counts = λ w c e. let z : _≡_ {A = ℕ} 0 1 = cc in absurd (omega arith);
+        one-output = λ w c e. let z : _≡_ {A = ℕ} 0 1 = cc in absurd (omega arith);
+        guarded = λ w c e. let z : _≡_ {A = ℕ} 0 1 = cc in absurd (omega arith);
+        full = λ e f.
+            let k : cause ≡ FullTally = cc in
+            true≢false (sym (fits-room t 1 f) ∙ step-full net cycle (length latches) (length values) t (is ∙ ap Failed k));
+        kept = λ other e. let k : cause ≡ other = cc in rw k refl;
+      }
+
+  -- of an end that is what the definition gives
+  pub step-counts : (end : StepEnd) → end ≡ stepOf net cycle latches values t → StepCounts net latches values t end
+  unfolding stepOf
+  step-counts end e = rw e (counts-as (stepCheck net cycle (length latches) (length values) t) refl)

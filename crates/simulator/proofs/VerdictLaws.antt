@@ -10,7 +10,7 @@ use lib.ListN.{length, getD, take, drop, length-map, List·getD-append}
 use borrow.Author.Tests.{ne-eqb}
 use Rattle.netlist.specs.Layout.{inputCount, latchCount}
 use Rattle.netlist.specs.Meaning.{words}
-use Rattle.calls.specs.declared.refusal.Checked.the-variants.{Passed}
+use Rattle.calls.specs.declared.refusal.Tested.the-variants.{Passed}
 use Rattle.calls.specs.declared.tally.Tally.{Tally}
 use Rattle.calls.specs.Tallies.{isRejected}
 use Rattle.calls.specs.Refusals.{runCheck}

@@ -4,25 +4,27 @@ use mathlib.Core.Bool.{Bool, true, false}
 use mathlib.Core.List.{List, [], _∷_, _++_, map}
 use Prim.Native.Nat.{ℕ, suc, _+_, _-_, _/_, _^_, _<_, _≤_}
 use lib.ListN.{length, getD, take}
-use Rattle.netlist.specs.Layout.{maximum, inputCount, latchCount, nextAt, resetAt, outputAt}
+use Rattle.netlist.specs.Layout.{maximum, inputCount, latchCount, outputCount, nextAt, resetAt, outputAt}
 use Rattle.netlist.specs.Lanes.{lane, wordOf}
 use Rattle.netlist.specs.Meaning.{bools, words, bitOf, litOf}
 use Rattle.netlist.specs.Aiger.{Satisfies}
 use Rattle.netlist.specs.Valid.{isFree, freeCount, isNetlist}
 use Rattle.calls.specs.declared.refusal.Cause.{Cause}
-use Rattle.calls.specs.declared.refusal.Cause.the-variants.{TraceTooLong, WrongLine}
-use Rattle.calls.specs.declared.refusal.Checked.the-variants.{Passed}
+use Rattle.calls.specs.declared.refusal.Cause.the-variants.{TraceTooLong, WrongLine, FullTally}
+use Rattle.calls.specs.declared.refusal.Tested.the-variants.{Passed}
+use Rattle.simulator.specs.declared.outcome.StartOutcome.the-variants as start
 use Rattle.simulator.specs.declared.outcome.StepOutcome.{StepOutcome}
 use Rattle.simulator.specs.declared.outcome.StepOutcome.the-variants.{Output, Refused}
 use Rattle.simulator.specs.declared.outcome.Verdict.{Verdict}
 use Rattle.simulator.specs.declared.outcome.Verdict.the-variants.{Rejected}
 use Rattle.simulator.specs.declared.outcome.RunOutcome.the-variants as run
 use Rattle.calls.specs.declared.tally.Tally.{Tally}
+use Rattle.calls.specs.Tallies.{CycleMore, Fits}
 use Rattle.trace.specs.Traces.{faultOf, cyclesOf}
 use Rattle.trace.specs.Claims.{FirstWrong, TraceMeans}
 use Rattle.calls.specs.Refusals.{startCheck, stepCheck, runCheck}
-use Rattle.simulator.specs.Start.{startOf}
-use Rattle.simulator.specs.Step.{StepEnd, stepOf}
+use Rattle.simulator.specs.Start.{startEnd, startOf}
+use Rattle.simulator.specs.Step.{StepEnd, stepEnd, stepOf}
 use Rattle.simulator.specs.Run.{Running, running, verdictByte, RunEnd, runEnd, ranTo, runOf}
 
 -- ---- start: what lane n of latch k's word is after a start that is not refused
@@ -48,6 +50,10 @@ pub record WordsOfStart (net latches : List ℕ) (t : Tally) : Type 0 where
   -- a start that is not refused leaves it in the j-th uninitialised latch, j from 0, and j is below 6
   pub free : startCheck net (length latches) ≡ Passed → (k : ℕ) → k < latchCount net → isFree net k ≡ true
       → (freeCount net k < 6) × (getD (startOf net latches t .latches) k 0 ≡ freeWord (freeCount net k))
+  -- it clears all three numbers of the tally; a refused one changes nothing
+  pub clears : startCheck net (length latches) ≡ Passed → startOf net latches t .answer .tally ≡ record { cycles = 0; rejected = 0; checked = 0 }
+  pub kept : (cause : Cause) → startOf net latches t .answer .outcome ≡ start.Refused cause
+      → startOf net latches t ≡ startEnd (record { outcome = start.Refused cause; tally = t }) latches
 
 -- ---- step: what lane n of a step that is not refused shows
 -- lane n of the latches before it, and of the values that it leaves
@@ -63,15 +69,28 @@ pub record LaneOfStep (n : ℕ) (net cycle latches : List ℕ) (end : StepEnd) :
   pub only : (v : List Bool) → Satisfies net (map (bitOf bools) cycle) (laneHeld n net latches) v → v ≡ laneSeen n net end
   -- each latch takes the value of its next literal, all of them under these values
   pub next : (k : ℕ) → k < latchCount net → lane n (getD (end .latches) k 0) ≡ litOf bools (laneSeen n net end) (getD net (nextAt k) 0)
-  -- and the word that is answered has the value of the output literal
+  -- and the words that are answered have the values of the output literals
   pub word : ℕ
-  pub answered : end .answer .outcome ≡ Output word
+  pub second : ℕ
+  pub answered : end .answer .outcome ≡ Output word second
   pub output : lane n word ≡ litOf bools (laneSeen n net end) (getD net (outputAt net 0) 0)
+  pub checked : outputCount net ≡ 2 → lane n second ≡ litOf bools (laneSeen n net end) (getD net (outputAt net 1) 0)
 
 abbrev pub StepMeans : List ℕ → List ℕ → List ℕ → List ℕ → Tally → Type 0
 StepMeans net cycle latches values t =
     stepCheck net cycle (length latches) (length values) t ≡ Passed → (n : ℕ) → n < 64
     → LaneOfStep n net cycle latches (stepOf net cycle latches values t)
+
+-- ---- step: what it adds to the tally, when that is full, and that a refusal changes nothing
+pub record StepCounts (net latches values : List ℕ) (t : Tally) (end : StepEnd) : Type 0 where
+  -- an accepted step counts its cycle by the words that it answers
+  pub counts : (w c : ℕ) → end .answer .outcome ≡ Output w c → CycleMore t w c (end .answer .tally)
+  -- "the second 0 when O = 1", and "with O = 1 the third number does not move"
+  pub one-output : (w c : ℕ) → end .answer .outcome ≡ Output w c → outputCount net ≡ 1 → (c ≡ 0) × (end .answer .tally .checked ≡ t .checked)
+  -- 17 guards all three numbers, with one output too, and nothing else
+  pub guarded : (w c : ℕ) → end .answer .outcome ≡ Output w c → Fits t 1
+  pub full : end .answer .outcome ≡ Refused FullTally → Fits t 1 → ⊥
+  pub kept : (cause : Cause) → end .answer .outcome ≡ Refused cause → end ≡ stepEnd (record { outcome = Refused cause; tally = t }) latches values
 
 -- ---- run: what its trace is, and when it is refused for it
 pub record TraceOfRun (net trace latches values verdicts : List ℕ) (t : Tally) : Type 0 where
@@ -86,6 +105,12 @@ pub record TraceOfRun (net trace latches values verdicts : List ℕ) (t : Tally)
   -- a refusal that tells a line, from 1, tells the first wrong one
   pub line : (k : ℕ) → runOf net trace latches values verdicts t .answer .outcome ≡ run.Refused (WrongLine k)
       → (j : ℕ) × (k ≡ suc j) × FirstWrong (inputCount net) j trace
+  -- the lines of an accepted run fit each of the tally's three numbers, with one output too; those of one refused 17 do not
+  pub guarded : (v : Verdict) → runOf net trace latches values verdicts t .answer .outcome ≡ run.Done v → Fits t (length (cyclesOf (inputCount net) trace))
+  pub full : runOf net trace latches values verdicts t .answer .outcome ≡ run.Refused FullTally → Fits t (length (cyclesOf (inputCount net) trace)) → ⊥
+  -- a refusal, whatever its cause, changes nothing
+  pub kept : (cause : Cause) → runOf net trace latches values verdicts t .answer .outcome ≡ run.Refused cause
+      → runOf net trace latches values verdicts t ≡ runEnd (record { outcome = run.Refused cause; tally = t }) latches values verdicts
 
 -- ---- run: a run that is not refused is its steps, one after another
 -- what steps come to: what a run holds after them, or a refusal
@@ -95,7 +120,7 @@ pub data Steps : Type 0 where
 
 -- after a step that ended so, where the run had these bytes
 unfoldable pub afterStep : StepOutcome → StepEnd → List ℕ → Steps
-afterStep (Output w) e bytes = went (running (e .latches) (e .values) (bytes ++ (verdictByte w ∷ [])) (e .answer .tally))
+afterStep (Output w c) e bytes = went (running (e .latches) (e .values) (bytes ++ (verdictByte w ∷ [])) (e .answer .tally))
 afterStep (Refused cause) e bytes = refusedAt cause
 
 -- one step more, unless one was refused

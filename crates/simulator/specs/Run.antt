@@ -6,8 +6,8 @@ use Prim.Native.Nat.{ℕ}
 use lib.Dec.{eqb}
 use lib.ListN.{length, drop}
 use Rattle.netlist.specs.Layout.{inputCount}
-use Rattle.calls.specs.declared.refusal.Checked.{Checked}
-use Rattle.calls.specs.declared.refusal.Checked.the-variants.{Passed, Failed}
+use Rattle.calls.specs.declared.refusal.Tested.{Tested}
+use Rattle.calls.specs.declared.refusal.Tested.the-variants.{Passed, Failed}
 use Rattle.simulator.specs.declared.outcome.Verdict.{Verdict}
 use Rattle.simulator.specs.declared.outcome.Verdict.the-variants.{Accepted, Rejected}
 use Rattle.simulator.specs.declared.outcome.RunOutcome.the-variants.{Done, Refused}
@@ -16,9 +16,9 @@ use Rattle.calls.specs.declared.tally.Tally.{Tally}
 use Rattle.calls.specs.Tallies.{isRejected, counted}
 use Rattle.trace.specs.Traces.{cyclesOf}
 use Rattle.calls.specs.Refusals.{runCheck}
-use Rattle.simulator.specs.Step.{outputWord, latchesAfter, valuesAfter}
+use Rattle.simulator.specs.Step.{outputWord, checkedWord, latchesAfter, valuesAfter}
 
--- the byte of a cycle whose output word is w: 1 rejected, 0 accepted
+-- the byte of a cycle whose first output word is w: 1 rejected, 0 accepted
 unfoldable pub verdictByte : ℕ → ℕ
 verdictByte w = cond (isRejected w) 1 0
 
@@ -42,7 +42,8 @@ running l v b t = record { latches = l; values = v; bytes = b; tally = t }
 unfoldable pub runCycle : List ℕ → List ℕ → Running → Running
 runCycle net cycle r =
     let w = outputWord net cycle (r .latches) in
-    running (latchesAfter net cycle (r .latches)) (valuesAfter net cycle (r .latches) (r .values)) (r .bytes ++ (verdictByte w ∷ [])) (counted (r .tally) w)
+    running (latchesAfter net cycle (r .latches)) (valuesAfter net cycle (r .latches) (r .values)) (r .bytes ++ (verdictByte w ∷ []))
+    (counted (r .tally) w (checkedWord net cycle (r .latches)))
 
 -- cycles one after another
 unfoldable pub runCycles : List ℕ → Running → List (List ℕ) → Running
@@ -65,7 +66,7 @@ ranTo r verdicts =
     runEnd (record { outcome = Done (verdictOf (r .bytes)); tally = r .tally }) (r .latches) (r .values)
     (r .bytes ++ drop (length (r .bytes)) verdicts)
 
-unfoldable pub runAs : Checked → List ℕ → List ℕ → List ℕ → List ℕ → List ℕ → Tally → RunEnd
+unfoldable pub runAs : Tested → List ℕ → List ℕ → List ℕ → List ℕ → List ℕ → Tally → RunEnd
 runAs Passed net trace latches values verdicts t =
     ranTo (runCycles net (running latches values [] t) (cyclesOf (inputCount net) trace)) verdicts
 runAs (Failed cause) net trace latches values verdicts t =

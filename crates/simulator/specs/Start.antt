@@ -7,8 +7,8 @@ use lib.ListN.{length, getD, drop}
 use Rattle.netlist.specs.Layout.{latchCount, resetAt}
 use Rattle.netlist.specs.Lanes.{lane, wordOf}
 use Rattle.netlist.specs.Valid.{isFree, freeCount}
-use Rattle.calls.specs.declared.refusal.Checked.{Checked}
-use Rattle.calls.specs.declared.refusal.Checked.the-variants.{Passed, Failed}
+use Rattle.calls.specs.declared.refusal.Tested.{Tested}
+use Rattle.calls.specs.declared.refusal.Tested.the-variants.{Passed, Failed}
 use Rattle.simulator.specs.declared.outcome.StartOutcome.the-variants.{Ready, Refused}
 use Rattle.simulator.specs.declared.outcome.Started.{Started}
 use Rattle.calls.specs.declared.tally.Tally.{Tally}
@@ -33,7 +33,7 @@ pub record StartEnd : Type 0 where
 abbrev pub startEnd : Started → List ℕ → StartEnd
 startEnd r l = record { answer = r; latches = l }
 
-unfoldable pub startAs : Checked → List ℕ → List ℕ → Tally → StartEnd
+unfoldable pub startAs : Tested → List ℕ → List ℕ → Tally → StartEnd
 startAs Passed net latches t =
     startEnd (record { outcome = Ready; tally = cleared }) (startWords net (latchCount net) ++ drop (latchCount net) latches)
 startAs (Failed cause) net latches t = startEnd (record { outcome = Refused cause; tally = t }) latches

@@ -1,12 +1,14 @@
--- Step: one cycle. It fills the M + 1 value words, moves all latches together, answers the output word
+-- Step: one cycle. It fills the M + 1 value words, moves all latches together, answers the output words
 -- and brings the tally up to date. Assumes nothing.
+use mathlib.Core.Bool.{cond}
 use mathlib.Core.List.{List, _++_, map}
 use Prim.Native.Nat.{ℕ, _+_}
+use lib.Dec.{eqb}
 use lib.ListN.{length, take, drop}
-use Rattle.netlist.specs.Layout.{maximum, latchCount}
+use Rattle.netlist.specs.Layout.{maximum, latchCount, outputCount}
 use Rattle.netlist.specs.Meaning.{words, bitOf, valuesOf, nextOf, outputOf}
-use Rattle.calls.specs.declared.refusal.Checked.{Checked}
-use Rattle.calls.specs.declared.refusal.Checked.the-variants.{Passed, Failed}
+use Rattle.calls.specs.declared.refusal.Tested.{Tested}
+use Rattle.calls.specs.declared.refusal.Tested.the-variants.{Passed, Failed}
 use Rattle.simulator.specs.declared.outcome.StepOutcome.the-variants.{Output, Refused}
 use Rattle.simulator.specs.declared.outcome.Stepped.{Stepped}
 use Rattle.calls.specs.declared.tally.Tally.{Tally}
@@ -17,9 +19,13 @@ use Rattle.calls.specs.Refusals.{stepCheck}
 unfoldable pub cycleWords : List ℕ → List ℕ → List ℕ → List ℕ
 cycleWords net cycle latches = valuesOf words net (map (bitOf words) cycle) (take (latchCount net) latches)
 
--- the output word of a cycle
+-- the first output word of a cycle
 unfoldable pub outputWord : List ℕ → List ℕ → List ℕ → ℕ
 outputWord net cycle latches = outputOf words net 0 (cycleWords net cycle latches)
+
+-- document 02, No. 7: "Step answers both output words, the second 0 when O = 1"
+unfoldable pub checkedWord : List ℕ → List ℕ → List ℕ → ℕ
+checkedWord net cycle latches = cond (eqb (outputCount net) 2) (outputOf words net 1 (cycleWords net cycle latches)) 0
 
 -- the latch buffer and the value buffer after a cycle; longer buffers keep their surplus
 unfoldable pub latchesAfter : List ℕ → List ℕ → List ℕ → List ℕ
@@ -37,10 +43,11 @@ pub record StepEnd : Type 0 where
 abbrev pub stepEnd : Stepped → List ℕ → List ℕ → StepEnd
 stepEnd r l v = record { answer = r; latches = l; values = v }
 
-unfoldable pub stepAs : Checked → List ℕ → List ℕ → List ℕ → List ℕ → Tally → StepEnd
+unfoldable pub stepAs : Tested → List ℕ → List ℕ → List ℕ → List ℕ → Tally → StepEnd
 stepAs Passed net cycle latches values t =
     let w = outputWord net cycle latches in
-    stepEnd (record { outcome = Output w; tally = counted t w }) (latchesAfter net cycle latches) (valuesAfter net cycle latches values)
+    let c = checkedWord net cycle latches in
+    stepEnd (record { outcome = Output w c; tally = counted t w c }) (latchesAfter net cycle latches) (valuesAfter net cycle latches values)
 stepAs (Failed cause) net cycle latches values t = stepEnd (record { outcome = Refused cause; tally = t }) latches values
 
 unfoldable pub stepOf : List ℕ → List ℕ → List ℕ → List ℕ → Tally → StepEnd

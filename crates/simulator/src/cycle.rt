@@ -1,21 +1,23 @@
 // One cycle over the words of a netlist's variables, in all 64 lanes at once.
 ghost use mathlib.Core.Path.{_≡_};
-ghost use mathlib.Core.Bool.{true};
+ghost use mathlib.Core.Bool.{true, cond};
 ghost use mathlib.Core.List.{_++_, map};
 ghost use Prim.Native.Nat.{_+_, _<_, _≤_};
+ghost use lib.Dec.{eqb};
 ghost use lib.ListN.{length, take, drop};
 ghost use lib.Seq.{paste};
-ghost use Rattle.netlist.specs.Layout.{maximum, inputCount, latchCount, gateCount, operandsAt, gateVariable};
+ghost use Rattle.netlist.specs.Layout.{maximum, inputCount, latchCount, outputCount, gateCount, operandsAt, gateVariable};
 ghost use Rattle.netlist.specs.Literals.{variableOf};
-ghost use Rattle.netlist.specs.Meaning.{words, litOf, bitOf, front, gatesOf, nextsOf};
+ghost use Rattle.netlist.specs.Meaning.{words, litOf, bitOf, front, gatesOf, nextsOf, outputOf};
 ghost use Rattle.netlist.specs.Valid.{isNetlist};
-ghost use Rattle.simulator.specs.Step.{outputWord, latchesAfter, valuesAfter};
+ghost use Rattle.simulator.specs.Step.{outputWord, checkedWord, latchesAfter, valuesAfter};
 use crate::layout::HEADER;
 use crate::layout::operands_at;
 use crate::layout::output_at;
 use calls::ALL_LANES;
 use calls::GATES;
 use calls::LATCHES;
+use calls::OUTPUTS;
 use calls::header;
 use netlist::Literal;
 
@@ -122,16 +124,36 @@ fn latches_move(net: &[u16], count: usize, values: &[u64], latches: &mut [u64])
     }
 }
 
-// One cycle of a netlist whose buffers are long enough: the output word.
-pub(crate) fn advance(net: &[u16], cycle: &[u8], latches: &mut [u64], values: &mut [u64]) -> u64
+// The output words of a cycle; checked is 0 where there is no second output.
+pub(crate) struct Words {
+    pub accept: u64,
+    pub checked: u64,
+}
+
+// The output words of a netlist whose variables have these words.
+fn outputs(net: &[u16], values: &[u64]) -> Words
+    requires { ⌜ isNetlist (now net) ≡ true ⌝ }
+    requires { ⌜ maximum (now net) + 1 ≤ length (now values) ⌝ }
+    ensures { λ r. ⌜ (r .accept ≡ outputOf words (now (net .entry)) 0 (now (values .entry))) × (r .checked ≡ cond (eqb (outputCount (now (net .entry))) 2) (outputOf words (now (net .entry)) 1 (now (values .entry))) 0) ⌝ }
+{
+    let at = output_at(net);
+    let accept = word_of(Literal(net[at]), values);
+    if header(net, OUTPUTS) != 2 {
+        return Words { accept, checked: 0 };
+    }
+    let checked = word_of(Literal(net[at + 1]), values);
+    Words { accept, checked }
+}
+
+// One cycle of a netlist whose buffers are long enough: the output words.
+pub(crate) fn advance(net: &[u16], cycle: &[u8], latches: &mut [u64], values: &mut [u64]) -> Words
     requires { ⌜ isNetlist (now net) ≡ true ⌝ }
     requires { ⌜ length (now cycle) ≡ inputCount (now net) ⌝ }
     requires { ⌜ latchCount (now net) ≤ length (now latches) ⌝ }
     requires { ⌜ maximum (now net) + 1 ≤ length (now values) ⌝ }
-    ensures { λ r. ⌜ (r ≡ outputWord (now (net .entry)) (now (cycle .entry)) (now (latches .entry))) × (now (latches .exit) ≡ latchesAfter (now (net .entry)) (now (cycle .entry)) (now (latches .entry))) × (now (values .exit) ≡ valuesAfter (now (net .entry)) (now (cycle .entry)) (now (latches .entry)) (now (values .entry))) ⌝ }
+    ensures { λ r. ⌜ (r .accept ≡ outputWord (now (net .entry)) (now (cycle .entry)) (now (latches .entry))) × (r .checked ≡ checkedWord (now (net .entry)) (now (cycle .entry)) (now (latches .entry))) × (now (latches .exit) ≡ latchesAfter (now (net .entry)) (now (cycle .entry)) (now (latches .entry))) × (now (values .exit) ≡ valuesAfter (now (net .entry)) (now (cycle .entry)) (now (latches .entry)) (now (values .entry))) ⌝ }
 {
     evaluate(net, cycle, latches, values);
     latches_move(net, header(net, LATCHES), values, latches);
-    let at = output_at(net);
-    word_of(Literal(net[at]), values)
+    outputs(net, values)
 }

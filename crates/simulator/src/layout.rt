@@ -1,4 +1,4 @@
-// Where the latches, the output and the gates of a netlist stand.
+// Where the latches, the outputs and the gates of a netlist stand.
 ghost use mathlib.Core.Path.{_≡_};
 ghost use Rattle.netlist.specs.Layout.{outputAt, operandsAt};
 use calls::LATCHES;
@@ -8,7 +8,7 @@ use calls::header;
 // How many numbers the header has: the latches follow it, two numbers each.
 pub(crate) const HEADER: usize = 5;
 
-// The place of the output literal.
+// The place of the first output literal.
 pub(crate) fn output_at(net: &[u16]) -> usize
     ensures { λ r. ⌜ r ≡ outputAt (now (net .entry)) 0 ⌝ }
 {

@@ -1,15 +1,13 @@
 // The simulator of netlists: start, step and run over lent latch words, value words and verdict
 // bytes, 64 lanes at a time, with the caller's tally by value. Knows nothing of graphs. Exports that
 // each step computes and answers, in every lane, what the one valuation that AIGER's equations allow
-// gives, that a run is its steps one after another, one for each line of its trace, and that it answers
-// rejected exactly if one of their bytes is 1.
+// gives, and what it adds to the three numbers of the tally; that a run is its steps one after another,
+// one for each line of its trace, and that it answers rejected exactly if one of their bytes is 1.
 ghost use mathlib.Core.Path.{_≡_};
-ghost use Prim.Native.Nat.{ℕ};
 ghost use Rattle.simulator.specs.Start.{startEnd, startOf};
 ghost use Rattle.simulator.specs.Step.{stepEnd, stepOf};
 ghost use Rattle.simulator.specs.Run.{runEnd, runOf};
-ghost use Rattle.simulator.specs.Claims.{StartMeans, WordsOfStart, StepMeans, TraceOfRun, RunIsSteps, VerdictMeans};
-ghost use Rattle.calls.specs.Tallies.{RejectedByLane};
+ghost use Rattle.simulator.specs.Claims.{StartMeans, WordsOfStart, StepMeans, StepCounts, TraceOfRun, RunIsSteps, VerdictMeans};
 
 mod cycle;
 mod latches;
@@ -22,9 +20,9 @@ use crate::cycle::advance;
 use crate::latches::starts;
 use crate::running::run_cycles;
 use crate::tally::tallied;
-use calls::Checked;
 use calls::LATCHES;
 use calls::Tally;
+use calls::Tested;
 use calls::header;
 use calls::run_check;
 use calls::start_check;
@@ -43,19 +41,20 @@ pub fn start(net: &[u16], latches: &mut [u64], tally: Tally) -> Started
     ensures lanes { λ _. ⌜ StartMeans (now (net .entry)) (now (latches .entry)) tally ⌝ }
     ensures computed { λ _. ⌜ WordsOfStart (now (net .entry)) (now (latches .entry)) tally ⌝ }
 {
-    let checked = start_check(net, latches.len());
-    match checked {
-        Checked::Failed(cause) => Started {
+    let tested = start_check(net, latches.len());
+    match tested {
+        Tested::Failed(cause) => Started {
             outcome: StartOutcome::Refused(cause),
             tally,
         },
-        Checked::Passed => {
+        Tested::Passed => {
             starts(net, header(net, LATCHES), latches);
             Started {
                 outcome: StartOutcome::Ready,
                 tally: Tally {
                     cycles: 0,
                     rejected: 0,
+                    checked: 0,
                 },
             }
         }
@@ -72,19 +71,19 @@ pub fn step(
 ) -> Stepped
     ensures { λ r. ⌜ stepEnd r (now (latches .exit)) (now (values .exit)) ≡ stepOf (now (net .entry)) (now (cycle .entry)) (now (latches .entry)) (now (values .entry)) tally ⌝ }
     ensures aiger { λ _. ⌜ StepMeans (now (net .entry)) (now (cycle .entry)) (now (latches .entry)) (now (values .entry)) tally ⌝ }
-    ensures rejected { λ _. ⌜ ((w : ℕ) → RejectedByLane w) ⌝ }
+    ensures counts { λ r. ⌜ StepCounts (now (net .entry)) (now (latches .entry)) (now (values .entry)) tally (stepEnd r (now (latches .exit)) (now (values .exit))) ⌝ }
 {
-    let checked = step_check(net, cycle, latches.len(), values.len(), tally);
-    match checked {
-        Checked::Failed(cause) => Stepped {
+    let tested = step_check(net, cycle, latches.len(), values.len(), tally);
+    match tested {
+        Tested::Failed(cause) => Stepped {
             outcome: StepOutcome::Refused(cause),
             tally,
         },
-        Checked::Passed => {
-            let word = advance(net, cycle, latches, values);
+        Tested::Passed => {
+            let words = advance(net, cycle, latches, values);
             Stepped {
-                outcome: StepOutcome::Output(word),
-                tally: tallied(tally, word),
+                outcome: StepOutcome::Output(words.accept, words.checked),
+                tally: tallied(tally, words.accept, words.checked),
             }
         }
     }
@@ -104,7 +103,7 @@ pub fn run(
     ensures steps { λ _. ⌜ RunIsSteps (now (net .entry)) (now (trace .entry)) (now (latches .entry)) (now (values .entry)) (now (verdicts .entry)) tally ⌝ }
     ensures verdict { λ r. ⌜ VerdictMeans (now (net .entry)) (now (trace .entry)) (now (latches .entry)) (now (values .entry)) (now (verdicts .entry)) tally (runEnd r (now (latches .exit)) (now (values .exit)) (now (verdicts .exit))) ⌝ }
 {
-    let checked = run_check(
+    let tested = run_check(
         net,
         trace,
         latches.len(),
@@ -112,11 +111,11 @@ pub fn run(
         verdicts.len(),
         tally,
     );
-    match checked {
-        Checked::Failed(cause) => Ran {
+    match tested {
+        Tested::Failed(cause) => Ran {
             outcome: RunOutcome::Refused(cause),
             tally,
         },
-        Checked::Passed => run_cycles(net, trace, latches, values, verdicts, tally),
+        Tested::Passed => run_cycles(net, trace, latches, values, verdicts, tally),
     }
 }

@@ -13,8 +13,8 @@ pub struct Started {
 }
 
 pub enum StepOutcome {
-    // The output word.
-    Output(u64),
+    // The output words; the second is 0 where there is one output.
+    Output(u64, u64),
     Refused(Cause),
 }
 

@@ -2,7 +2,7 @@
 ghost use mathlib.Core.Path.{_≡_};
 ghost use Prim.Native.Nat.{_≤_};
 ghost use lib.ListN.{length, take};
-ghost use Rattle.calls.specs.declared.refusal.Checked.the-variants.{Passed};
+ghost use Rattle.calls.specs.declared.refusal.Tested.the-variants.{Passed};
 ghost use Rattle.calls.specs.Refusals.{runCheck};
 ghost use Rattle.simulator.specs.Run.{verdictByte, verdictOf, runEnd, runOf};
 use crate::cycle::advance;
@@ -17,7 +17,7 @@ use calls::is_rejected;
 use trace::next_cycle;
 use trace::next_place;
 
-// The byte of a cycle with this output word: 1 rejected, 0 accepted.
+// The byte of a cycle with this first output word: 1 rejected, 0 accepted.
 fn verdict_byte(word: u64) -> u8
     ensures { λ r. ⌜ r ≡ verdictByte word ⌝ }
 {
@@ -58,9 +58,9 @@ pub(crate) fn run_cycles(
     let mut k: usize = 0;
     while k < lines {
         let cycle = next_cycle(trace, at, n);
-        let word = advance(net, cycle, latches, values);
-        verdicts[k] = verdict_byte(word);
-        total = tallied(total, word);
+        let words = advance(net, cycle, latches, values);
+        verdicts[k] = verdict_byte(words.accept);
+        total = tallied(total, words.accept, words.checked);
         at = next_place(trace, at, n);
         k += 1;
     }

@@ -1,6 +1,7 @@
 /* What `run` does, as a plain C loop: the netlist and the trace are checked
    once, then each cycle spreads its inputs over the lanes, evaluates the gates
-   in 64-bit words, moves the latches together and writes its verdict byte. */
+   in 64-bit words, moves the latches together, writes its verdict byte and, with
+   two outputs, counts the cycle if the second is 1 in some lane. */
 
 #include <stddef.h>
 #include <stdint.h>
@@ -8,7 +9,7 @@
 struct netlist {
     size_t variables, inputs, latches, gates;
     const uint16_t *latch; /* next and reset for each latch */
-    uint16_t output;
+    uint16_t output, checked; /* checked is literal 0 where there is one output */
     const uint16_t *gate; /* r0 and r1 for each gate */
 };
 
@@ -19,11 +20,14 @@ static int check_netlist(const uint16_t *net, size_t length, struct netlist *n) 
     n->latches = net[2];
     n->gates = net[4];
     if (n->variables != n->inputs + n->latches + n->gates || n->variables > 4095) return 0;
-    if (n->inputs < 1 || n->inputs > 64 || net[3] != 1) return 0;
-    if (length < 6 + 2 * n->latches + 2 * n->gates) return 0;
+    const size_t outputs = net[3];
+    if (n->inputs < 1 || n->inputs > 64 || outputs < 1 || outputs > 2) return 0;
+    if (length < 5 + 2 * n->latches + outputs + 2 * n->gates) return 0;
     n->latch = net + 5;
-    n->output = n->latch[2 * n->latches];
-    n->gate = n->latch + 2 * n->latches + 1;
+    const uint16_t *const output = n->latch + 2 * n->latches;
+    n->output = output[0];
+    n->checked = outputs == 2 ? output[1] : 0;
+    n->gate = output + outputs;
     const size_t most = 2 * n->variables + 1;
     int uninitialised = 0;
     for (size_t i = 0; i < n->latches; i++) {
@@ -32,7 +36,7 @@ static int check_netlist(const uint16_t *net, size_t length, struct netlist *n) 
         if (next > most || (reset > 1 && reset != own)) return 0;
         uninitialised += reset > 1;
     }
-    if (uninitialised > 6 || n->output > most) return 0;
+    if (uninitialised > 6 || n->output > most || n->checked > most) return 0;
     for (size_t i = 0; i < n->gates; i++) {
         const size_t own = 2 * (1 + n->inputs + n->latches + i);
         const uint16_t r0 = n->gate[2 * i], r1 = n->gate[2 * i + 1];
@@ -59,7 +63,7 @@ static inline uint64_t word(const uint64_t *values, uint16_t literal) {
    caller lends buffers that are long enough. */
 int c_loop_run(const uint16_t *net, size_t net_len, const uint8_t *trace, size_t trace_len,
                uint64_t *restrict latches, uint64_t *restrict values, uint8_t *restrict verdicts,
-               uint32_t *cycles, uint32_t *rejected) {
+               uint32_t *cycles, uint32_t *rejected, uint32_t *checked) {
     struct netlist n;
     if (!check_netlist(net, net_len, &n) || !check_trace(trace, trace_len, n.inputs)) return 0;
     const size_t count = trace_len / (n.inputs + 1);
@@ -76,6 +80,7 @@ int c_loop_run(const uint16_t *net, size_t net_len, const uint8_t *trace, size_t
         verdicts[cycle] = word(values, n.output) != UINT64_MAX;
         *cycles += 1;
         *rejected += verdicts[cycle];
+        *checked += word(values, n.checked) != 0;
     }
     return 1;
 }

@@ -1,5 +1,7 @@
 //! One netlist with all that the calls on it are lent.
 
+use reference::Outputs;
+
 /// What start, step and run are lent beside the netlist.
 #[derive(Clone, Debug, PartialEq)]
 pub struct Words {
@@ -8,6 +10,8 @@ pub struct Words {
     pub verdicts: Vec<u8>,
     pub cycles: u32,
     pub rejected: u32,
+    /// Stays 0 with one output.
+    pub checked: u32,
 }
 
 /// A graph, its netlist, its AIGER text and a trace for it.
@@ -19,11 +23,15 @@ pub struct Bench {
 }
 
 impl Bench {
-    /// Made by the library, and checked to be what the reference makes.
-    pub fn new(graph: String, trace: Vec<u8>) -> Bench {
-        let graph = graph.into_bytes();
+    /// Made by the library, and found to be what the reference makes.
+    pub fn new(graph: &str, outputs: Outputs, trace: &[u8]) -> Bench {
+        let (graph, trace) = (graph.as_bytes().to_vec(), trace.to_vec());
         let mut net = vec![0; 8_196];
-        let gates = ludopoplar::build(&graph, &mut net).expect("an accepted graph");
+        let built = match outputs {
+            Outputs::Accept => ludopoplar::build(&graph, &mut net),
+            Outputs::AcceptAndChecked => ludopoplar::build_checked(&graph, &mut net),
+        };
+        let gates = built.expect("an accepted graph");
         let mut text = vec![0; 65_536];
         let length = ludopoplar::write(&net, &mut text).expect("a netlist");
         text.truncate(length);
@@ -37,13 +45,13 @@ impl Bench {
             text,
             trace,
         };
-        bench.check_reference(gates);
+        bench.check_reference(outputs, gates);
         bench
     }
 
-    fn check_reference(&self, gates: u64) {
+    fn check_reference(&self, outputs: Outputs, gates: u64) {
         let (mut net, mut text) = (vec![0; self.net.len()], vec![0; self.text.len()]);
-        let made = reference::build(&self.graph, &mut net).expect("an accepted graph");
+        let made = reference::build(&self.graph, outputs, &mut net).expect("an accepted graph");
         assert_eq!((made as u64, &net), (gates, &self.net), "the builds differ");
         reference::write(&net, &mut text).expect("a netlist");
         assert_eq!(text, self.text, "the texts differ");
@@ -66,15 +74,16 @@ impl Bench {
 
     /// Started words, as long as the netlist and the trace need.
     pub fn words(&self) -> Words {
-        let mut tally = ludopoplar::Tally::default();
+        let mut tally = ludopoplar::CheckedTally::default();
         let mut latches = vec![0; usize::from(self.net[2])];
-        ludopoplar::start(&self.net, &mut latches, &mut tally).expect("a netlist");
+        ludopoplar::start_checked(&self.net, &mut latches, &mut tally).expect("a netlist");
         Words {
             latches,
             values: vec![0; usize::from(self.net[0]) + 1],
             verdicts: vec![0; self.cycles()],
             cycles: tally.cycles,
             rejected: tally.rejected,
+            checked: tally.checked,
         }
     }
 }

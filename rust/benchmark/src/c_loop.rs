@@ -13,6 +13,7 @@ extern "C" {
         verdicts: *mut u8,
         cycles: *mut u32,
         rejected: *mut u32,
+        checked: *mut u32,
     ) -> i32;
 }
 
@@ -35,6 +36,7 @@ pub fn run(net: &[u16], trace: &[u8], words: &mut Words) {
             words.verdicts.as_mut_ptr(),
             &mut words.cycles,
             &mut words.rejected,
+            &mut words.checked,
         )
     };
     assert_eq!(done, 1, "the C loop refused");

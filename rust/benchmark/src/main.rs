@@ -1,4 +1,5 @@
-//! Measures the proved library beside the reference and, for `run`, a C loop.
+//! Measures the proved library beside the reference and, for `run`, a C loop; and `run`
+//! with two outputs beside `run` with one.
 //! The results of all of them are compared before anything is timed.
 
 mod bench;
@@ -10,6 +11,7 @@ mod traces;
 
 use bench::{Bench, Words};
 use clock::best;
+use reference::Outputs;
 use std::fmt::Debug;
 use std::hint::black_box;
 
@@ -24,24 +26,30 @@ fn main() {
         "Processor time, best of {RUNS} repetitions for run, of {SHORT_CALLS} for the others."
     );
     println!("A ratio is another implementation's time over the library's: above 1 the");
-    println!("library is faster.");
+    println!("library is faster. That of one output is the library's own time with it.");
     report(
         "stroke buffer of 40 places",
-        &Bench::new(graphs::stroke_buffer(40), traces::longest(40, false)),
+        &graphs::stroke_buffer(40),
+        &traces::longest(40, false),
     );
     report(
         "stroke buffer of 8 places and its content, with six constants",
-        &Bench::new(graphs::stroke_content(8), traces::longest(8, true)),
+        &graphs::stroke_content(8),
+        &traces::longest(8, true),
     );
     report_build_by_size();
 }
 
-fn report(name: &str, bench: &Bench) {
+/// The calls on the netlist with one output, and `run` on that with two beside it.
+fn report(name: &str, graph: &str, trace: &[u8]) {
+    let bench = &Bench::new(graph, Outputs::Accept, trace);
+    let two_outputs = &Bench::new(graph, Outputs::AcceptAndChecked, trace);
     let [_, inputs, latches, _, gates] = bench.net[..5] else {
         unreachable!("a netlist has a header");
     };
     println!("\n{name}: {inputs} inputs, {latches} latches, {gates} gates");
     report_run(bench);
+    report_two_outputs(bench, two_outputs);
     report_step(bench);
     report_build(bench);
     report_read(bench);
@@ -79,6 +87,45 @@ fn report_run(bench: &Bench) {
         rate(bench.cycles(), library, "cycles"),
         rate(bench.cycles() * bench.gates(), library, "gates"),
         megabytes(trace.len(), library),
+        ratio(reference, library),
+        ratio(c, library),
+    );
+}
+
+/// The same graph and trace with checked; the two runs of the library take turns.
+fn report_two_outputs(one: &Bench, two: &Bench) {
+    let (net, trace) = (&two.net, &two.trace);
+    let (mut by_library, mut by_reference, mut by_c) = (two.words(), two.words(), two.words());
+    let mut with_one = one.words();
+    calls::run_checked_by_library(net, trace, &mut by_library);
+    calls::run_by_reference(net, trace, &mut by_reference);
+    c_loop::run(net, trace, &mut by_c);
+    calls::run_by_library(&one.net, trace, &mut with_one);
+    check_alike(&by_library, &[&by_reference, &by_c]);
+    assert_eq!(
+        by_library.verdicts, with_one.verdicts,
+        "checked moves accept"
+    );
+    let checked = by_library.checked;
+    let [library, library_with_one, reference, c] = best(
+        RUNS,
+        [
+            &mut || calls::run_checked_by_library(net, trace, &mut by_library),
+            &mut || calls::run_by_library(&one.net, trace, &mut with_one),
+            &mut || calls::run_by_reference(net, trace, &mut by_reference),
+            &mut || c_loop::run(net, trace, &mut by_c),
+        ],
+    );
+    check_alike(&by_library, &[&by_reference, &by_c]);
+    println!(
+        "  run with two outputs, {} gates, {checked} cycles checked\n         \
+         {}, {}, {}, {}; one output {}, reference {}, gcc -O3 loop {}",
+        two.gates(),
+        duration(library),
+        rate(two.cycles(), library, "cycles"),
+        rate(two.cycles() * two.gates(), library, "gates"),
+        megabytes(trace.len(), library),
+        ratio(library_with_one, library),
         ratio(reference, library),
         ratio(c, library),
     );
@@ -130,7 +177,7 @@ fn report_build(bench: &Bench) {
         SHORT_CALLS,
         [
             &mut || accepted(ludopoplar::build(&bench.graph, &mut net)),
-            &mut || accepted(reference::build(&bench.graph, &mut other)),
+            &mut || accepted(reference::build(&bench.graph, Outputs::Accept, &mut other)),
         ],
     );
     report_text_call("build", bench.gates(), bench.graph.len(), times);

@@ -38,7 +38,7 @@ fn written(random: &mut Random) -> Vec<u8> {
 }
 
 /// The lines of numbers in a netlist's layout, whether they are a netlist or not.
-fn printed(net: &[u16]) -> Vec<u8> {
+pub fn printed(net: &[u16]) -> Vec<u8> {
     let counts: Vec<usize> = net[..5].iter().map(|count| usize::from(*count)).collect();
     let (inputs, latches) = (counts[1], counts[2]);
     let header = net[..5].iter().map(u16::to_string).collect::<Vec<_>>();
@@ -55,8 +55,11 @@ fn printed(net: &[u16]) -> Vec<u8> {
             reset => format!("{own} {} {reset}\n", pair[0]),
         };
     }
-    text += &format!("{}\n", rest[0]);
-    for (gate, pair) in rest[1..].chunks(2).enumerate() {
+    let (outputs, gates) = rest.split_at(counts[3]);
+    for output in outputs {
+        text += &format!("{output}\n");
+    }
+    for (gate, pair) in gates.chunks(2).enumerate() {
         let own = literal(1 + inputs + latches + gate);
         text += &format!("{own} {} {}\n", pair[0], pair[1]);
     }
@@ -76,8 +79,10 @@ fn explicit_resets(random: &mut Random, text: &mut Vec<u8>) {
 }
 
 fn change_number(random: &mut Random, text: &mut Vec<u8>) {
-    if random.once_in(6) {
-        return change_header(random, text);
+    match random.below(12) {
+        0 | 1 => return change_header(random, text),
+        2 | 3 => return change_outputs(random, text),
+        _ => (),
     }
     change_fields(random, text, b' ', |random, fields| {
         let field = random.below(fields.len());
@@ -89,6 +94,43 @@ fn change_number(random: &mut Random, text: &mut Vec<u8>) {
             _ => fields[field] = other_number(random, &fields[field]),
         }
     });
+}
+
+/// Changes the header's O or the lines of outputs, or both: a line left out, doubled, or past
+/// the limit.
+fn change_outputs(random: &mut Random, text: &mut Vec<u8>) {
+    let mut lines: Vec<Vec<u8>> = text
+        .split_inclusive(|byte| *byte == b'\n')
+        .map(<[u8]>::to_vec)
+        .collect();
+    let Some(mut header) = header_of(text) else {
+        return;
+    };
+    let [variables, inputs, latches, outputs, _] = header;
+    let place = 1 + inputs + latches + random.below(outputs.max(1));
+    if place < lines.len() {
+        match random.below(4) {
+            0 => drop(lines.remove(place)),
+            1 => lines.insert(place, lines[place].clone()),
+            2 => lines[place] = format!("{}\n", 2 * variables + random.within(1..=3)).into_bytes(),
+            _ => (),
+        }
+    }
+    if random.coin() {
+        header[3] = random.below(5);
+    }
+    let header: Vec<String> = header.iter().map(usize::to_string).collect();
+    lines[0] = format!("aag {}\n", header.join(" ")).into_bytes();
+    *text = lines.concat();
+}
+
+/// M I L O A; `None` if the first line does not have their form.
+pub fn header_of(text: &[u8]) -> Option<[usize; 5]> {
+    let line = text.split(|byte| *byte == b'\n').next()?;
+    let fields = std::str::from_utf8(line).ok()?.strip_prefix("aag ")?;
+    let number = |field: &str| field.parse::<u16>().ok().map(usize::from);
+    let numbers: Vec<usize> = fields.split(' ').map(number).collect::<Option<_>>()?;
+    numbers.try_into().ok()
 }
 
 /// Changes a count of the header alone, or two of them against each other.

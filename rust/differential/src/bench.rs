@@ -1,6 +1,6 @@
 //! The bench on which calls are compared: its random source, and its record.
 
-use crate::compare::{compare, Call, Memory, Mismatch, Name, Outcome};
+use crate::compare::{compare, Call, Memory, Mismatch, Outcome};
 use crate::coverage::Coverage;
 use crate::random::Random;
 
@@ -12,11 +12,13 @@ pub struct Bench<'a> {
 
 impl Bench<'_> {
     pub fn compare(&mut self, call: &Call, memory: Memory) -> Result<Outcome, Mismatch> {
+        let before = memory.tally;
         let outcome = compare(call, memory)?;
         self.coverage.record(call.name, &outcome);
-        if call.name == Name::Build {
-            self.coverage.record_graph(&call.bytes, &outcome);
+        if let Some(outputs) = call.name.built() {
+            self.coverage.record_graph(&call.bytes, outputs, &outcome);
         }
+        self.coverage.stakes.record(call, before, &outcome);
         Ok(outcome)
     }
 

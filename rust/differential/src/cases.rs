@@ -6,7 +6,7 @@ use crate::compare::{Call, Lengths, Memory, Mismatch, Name};
 use crate::random::Random;
 use crate::round_trip::write_and_read_back;
 use crate::{aigers, graphs, netlists, pages, rates, sequence, sessions, traces};
-use reference::{formula_of_gates, Edge, Graph, Netlist, Tally};
+use reference::{formula_of_gates, Edge, Graph, Netlist, Outputs, Tally};
 
 /// The session and then the page are drawn last, so that the others' draws do not depend on
 /// them.
@@ -36,34 +36,42 @@ fn calls(bench: &mut Bench) -> Result<(), Mismatch> {
 
 fn build(bench: &mut Bench) -> Result<(), Mismatch> {
     let graph = graphs::any(&mut bench.random);
-    let needed = netlists::net_of(&graph).map_or(bench.random.below(3_000), |net| net.len());
+    let outputs = netlists::outputs(&mut bench.random);
+    let net = netlists::net_of(&graph, outputs);
+    let needed = net.map_or(bench.random.below(3_000), |net| net.len());
     let lengths = Lengths {
         net: bench.length(needed),
         ..Lengths::default()
     };
     let memory = Memory::random(&mut bench.random, lengths);
-    let call = Call::on_bytes(Name::Build, graph);
+    let call = Call::on_bytes(Name::building(outputs), graph);
     let outcome = bench.compare(&call, memory)?;
     if outcome.is_accepted() {
-        check_gates(&call.bytes, outcome.memory.answer)?;
+        check_gates(&call.bytes, outputs, outcome.memory.answer)?;
     }
     Ok(())
 }
 
 /// "The number of gates built is exactly what document 01's formula says, never
-/// above 10 × edges + 3 × operators"; here without the operator `!`.
-fn check_gates(text: &[u8], gates: u64) -> Result<(), Mismatch> {
+/// above 10 × edges + 3 × operators", with checked "12 × edges + 3 × operators"; here
+/// without the operator `!`.
+fn check_gates(text: &[u8], outputs: Outputs, gates: u64) -> Result<(), Mismatch> {
     let graph = Graph::parse(text).expect("an accepted graph");
     let of_edge = |edge: &Edge| edge.antecedent.operators() + edge.consequent.operators();
     let operators: usize = graph.edges.iter().map(of_edge).sum();
-    let bound = 10 * graph.edges.len() + 3 * operators;
-    let due = formula_of_gates(&graph);
+    let an_edge = match outputs {
+        Outputs::Accept => 10,
+        Outputs::AcceptAndChecked => 12,
+    };
+    let bound = an_edge * graph.edges.len() + 3 * operators;
+    let due = formula_of_gates(&graph, outputs);
     if gates == due as u64 && due <= bound {
         return Ok(());
     }
     let text = text.escape_ascii();
+    let name = Name::building(outputs);
     Err(Mismatch(format!(
-        "call: Build\ngraph: \"{text}\"\n{gates} gates, by the formula {due}, at most {bound}\n"
+        "call: {name:?}\ngraph: \"{text}\"\n{gates} gates, by the formula {due}, at most {bound}\n"
     )))
 }
 
@@ -125,7 +133,13 @@ fn tally(random: &mut Random, new_cycles: usize) -> Tally {
     Tally {
         cycles: count(),
         rejected: count(),
+        checked: count(),
     }
+}
+
+/// By the old name or by the new one.
+fn either(random: &mut Random, names: [Name; 2]) -> Name {
+    random.pick(&names)
 }
 
 /// The count of inputs that a netlist's numbers speak of; some other if none.
@@ -139,7 +153,8 @@ fn inputs_of(random: &mut Random, net: &[u16]) -> usize {
 fn start(bench: &mut Bench) -> Result<(), Mismatch> {
     let net = netlists::any(&mut bench.random);
     let memory = memory(bench, &net, 0);
-    bench.compare(&Call::on_net(Name::Start, net, Vec::new()), memory)?;
+    let name = either(&mut bench.random, [Name::Start, Name::StartChecked]);
+    bench.compare(&Call::on_net(name, net, Vec::new()), memory)?;
     Ok(())
 }
 
@@ -148,7 +163,8 @@ fn step(bench: &mut Bench) -> Result<(), Mismatch> {
     let inputs = inputs_of(&mut bench.random, &net);
     let cycle = traces::any_cycle(&mut bench.random, inputs);
     let memory = memory(bench, &net, 1);
-    bench.compare(&Call::on_net(Name::Step, net, cycle), memory)?;
+    let name = either(&mut bench.random, [Name::Step, Name::StepChecked]);
+    bench.compare(&Call::on_net(name, net, cycle), memory)?;
     Ok(())
 }
 
@@ -160,7 +176,8 @@ fn run(bench: &mut Bench) -> Result<(), Mismatch> {
     };
     let lines = trace.iter().filter(|byte| **byte == b'\n').count();
     let memory = memory(bench, &net, lines);
-    bench.compare(&Call::on_net(Name::Run, net, trace), memory)?;
+    let name = either(&mut bench.random, [Name::Run, Name::RunChecked]);
+    bench.compare(&Call::on_net(name, net, trace), memory)?;
     Ok(())
 }
 

@@ -4,7 +4,7 @@ use crate::pages::Record;
 use crate::random::Random;
 use crate::sessions::Session;
 use ludopoplar::raw;
-use reference::{Refusal, Tally, Trace, Verdict};
+use reference::{Outputs, Refusal, Tally, Trace, Verdict};
 use std::fmt::{Debug, Write as _};
 
 #[derive(Clone, Copy, Debug, PartialEq, Eq, PartialOrd, Ord)]
@@ -15,10 +15,41 @@ pub enum Name {
     Start,
     Step,
     Run,
+    BuildChecked,
+    StartChecked,
+    StepChecked,
+    RunChecked,
     PerMillion,
     BrokenCheck,
     BrokenLine,
     SessionPage,
+}
+
+impl Name {
+    /// The outputs of the netlist that the call builds; `None` if it builds none.
+    pub fn built(self) -> Option<Outputs> {
+        match self {
+            Name::Build => Some(Outputs::Accept),
+            Name::BuildChecked => Some(Outputs::AcceptAndChecked),
+            _ => None,
+        }
+    }
+
+    /// The call that builds a netlist with these outputs.
+    pub fn building(outputs: Outputs) -> Name {
+        match outputs {
+            Outputs::Accept => Name::Build,
+            Outputs::AcceptAndChecked => Name::BuildChecked,
+        }
+    }
+
+    /// Whether the call is lent all three numbers of the tally.
+    pub fn counts_checked(self) -> bool {
+        matches!(
+            self,
+            Name::StartChecked | Name::StepChecked | Name::RunChecked
+        )
+    }
 }
 
 /// A call with what it reads: `bytes` is a graph, an AIGER text, a cycle or a trace.
@@ -129,8 +160,10 @@ pub struct Memory {
     pub values: Lent<u64>,
     pub verdicts: Lent<u8>,
     pub tally: Tally,
-    /// Gates, length, output word, verdict or whole part.
+    /// Gates, length, first output word, verdict or whole part.
     pub answer: u64,
+    /// The second output word of `StepChecked`; the other calls leave it.
+    pub checked_word: u64,
     /// The second result of `PerMillion`; the other calls leave it.
     pub remainder: u64,
     /// Trace, offset and length that `BrokenLine` finds; no other call is lent them.
@@ -148,8 +181,10 @@ impl Memory {
             tally: Tally {
                 cycles: random.word() as u32,
                 rejected: random.word() as u32,
+                checked: random.word() as u32,
             },
             answer: random.word(),
+            checked_word: random.word(),
             remainder: random.word(),
             part: [0; 3],
         }
@@ -203,8 +238,13 @@ fn library(call: &mut Call, memory: &mut Memory) -> u64 {
     let (net, bytes) = (&call.net[..], &call.bytes[..]);
     let latches = memory.latches.get_mut();
     let values = memory.values.get_mut();
-    let Tally { cycles, rejected } = &mut memory.tally;
+    let Tally {
+        cycles,
+        rejected,
+        checked,
+    } = &mut memory.tally;
     let (answer, remainder) = (&mut memory.answer, &mut memory.remainder);
+    let checked_word = &mut memory.checked_word;
     match call.name {
         Name::Build => raw::build(bytes, memory.net.get_mut(), answer),
         Name::Read => raw::read(bytes, memory.net.get_mut(), answer),
@@ -215,6 +255,25 @@ fn library(call: &mut Call, memory: &mut Memory) -> u64 {
             let verdicts = memory.verdicts.get_mut();
             raw::run(
                 net, bytes, latches, values, verdicts, cycles, rejected, answer,
+            )
+        }
+        Name::BuildChecked => raw::build_checked(bytes, memory.net.get_mut(), answer),
+        Name::StartChecked => raw::start_checked(net, latches, cycles, rejected, checked),
+        Name::StepChecked => raw::step_checked(
+            net,
+            bytes,
+            latches,
+            values,
+            cycles,
+            rejected,
+            checked,
+            answer,
+            checked_word,
+        ),
+        Name::RunChecked => {
+            let verdicts = memory.verdicts.get_mut();
+            raw::run_checked(
+                net, bytes, latches, values, verdicts, cycles, rejected, checked, answer,
             )
         }
         Name::PerMillion => raw::per_million(*cycles, *rejected, answer, remainder),
@@ -231,20 +290,35 @@ fn reference_call(call: &Call, memory: &mut Memory) -> Result<(), Refusal> {
     let (net, bytes) = (&call.net[..], &call.bytes[..]);
     let latches = memory.latches.get_mut();
     let values = memory.values.get_mut();
+    let verdicts = memory.verdicts.get_mut();
     let tally = &mut memory.tally;
     let answer = match call.name {
-        Name::Build => reference::build(bytes, memory.net.get_mut())? as u64,
+        Name::Build => reference::build(bytes, Outputs::Accept, memory.net.get_mut())? as u64,
+        Name::BuildChecked => {
+            reference::build(bytes, Outputs::AcceptAndChecked, memory.net.get_mut())? as u64
+        }
         Name::Read => reference::read(bytes, memory.net.get_mut())? as u64,
         Name::Write => reference::write(net, memory.text.get_mut())? as u64,
-        Name::Start => return reference::start(net, latches, tally),
-        Name::Step => reference::step(net, bytes, latches, values, tally)?,
-        Name::Run => {
-            let verdicts = memory.verdicts.get_mut();
-            match reference::run(net, bytes, latches, values, verdicts, tally)? {
-                Verdict::Accepted => 0,
-                Verdict::Rejected => 1,
-            }
+        Name::Start => {
+            return with_two_numbers(tally, |tally| reference::start(net, latches, tally))
         }
+        Name::StartChecked => return reference::start(net, latches, tally),
+        Name::Step => {
+            let step = |tally: &mut _| reference::step(net, bytes, latches, values, tally);
+            with_two_numbers(tally, step)?.accept
+        }
+        Name::StepChecked => {
+            let words = reference::step(net, bytes, latches, values, tally)?;
+            memory.checked_word = words.checked;
+            words.accept
+        }
+        Name::Run => {
+            let run = |tally: &mut _| reference::run(net, bytes, latches, values, verdicts, tally);
+            number_of(with_two_numbers(tally, run)?)
+        }
+        Name::RunChecked => number_of(reference::run(
+            net, bytes, latches, values, verdicts, tally,
+        )?),
         Name::PerMillion => {
             let rate = reference::per_million(*tally)?;
             memory.remainder = rate.remainder.into();
@@ -269,6 +343,22 @@ fn reference_call(call: &Call, memory: &mut Memory) -> Result<(), Refusal> {
     Ok(())
 }
 
+/// The calls that were there before No. 7 of document 02 keep their parameters: they work as
+/// the new ones with a third number of 0, which is dropped.
+fn with_two_numbers<T>(tally: &mut Tally, call: impl FnOnce(&mut Tally) -> T) -> T {
+    let checked = std::mem::take(&mut tally.checked);
+    let answer = call(tally);
+    tally.checked = checked;
+    answer
+}
+
+fn number_of(verdict: Verdict) -> u64 {
+    match verdict {
+        Verdict::Accepted => 0,
+        Verdict::Rejected => 1,
+    }
+}
+
 fn code_of(answer: Result<(), Refusal>) -> u64 {
     match answer {
         Ok(()) => 0,
@@ -287,6 +377,8 @@ fn memory_differences(found: &Memory, due: &Memory) -> String {
         writeln!(differences, "{:?}, due {:?}", found.tally, due.tally).unwrap();
     }
     differences += &word_difference("answer", found.answer, due.answer);
+    let (second, due_second) = (found.checked_word, due.checked_word);
+    differences += &word_difference("second word", second, due_second);
     differences += &word_difference("remainder", found.remainder, due.remainder);
     for (place, what) in ["trace", "offset", "length"].iter().enumerate() {
         differences += &word_difference(what, found.part[place], due.part[place]);

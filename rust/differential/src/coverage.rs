@@ -1,20 +1,29 @@
-//! How often each call was accepted, and refused with each number; and of the graphs how
-//! often each rule chose their terminal edges, and what they have of names wider than a bit.
+//! How often each call was accepted, and refused with each number; of the graphs how often
+//! each rule chose their terminal edges, and what they have of names wider than a bit; and
+//! what the calls have of a second output.
 
 use crate::compare::{Name, Outcome};
 use crate::kinds::Kinds;
-use reference::{Edge, Graph, Operand};
+use crate::stakes::Stakes;
+use reference::{Edge, Graph, Operand, Outputs};
 use std::collections::BTreeMap;
 use std::fmt;
 
 /// Every number each call can be refused with; `BrokenLine` never is.
-const REFUSALS: [(Name, &[u32]); 9] = [
+const REFUSALS: [(Name, &[u32]); 13] = [
     (Name::Build, &[1, 2, 3, 4, 5, 6, 7, 8, 9, 10, 11, 12, 19]),
+    (
+        Name::BuildChecked,
+        &[1, 2, 3, 4, 5, 6, 7, 8, 9, 10, 11, 12, 19],
+    ),
     (Name::Read, &[1, 12, 13, 14]),
     (Name::Write, &[12, 16]),
     (Name::Start, &[12, 16]),
     (Name::Step, &[12, 15, 16, 17]),
     (Name::Run, &[1, 12, 15, 16, 17]),
+    (Name::StartChecked, &[12, 16]),
+    (Name::StepChecked, &[12, 15, 16, 17]),
+    (Name::RunChecked, &[1, 12, 15, 16, 17]),
     (Name::PerMillion, &[21]),
     (Name::BrokenCheck, &[1, 15, 25, 26]),
     (Name::SessionPage, &[1, 12, 22]),
@@ -34,6 +43,8 @@ pub struct Coverage {
     mode_refused: BTreeMap<u32, u64>,
     /// All graphs, by widths, bits and comparisons.
     kinds: Kinds,
+    /// All calls, by outputs and tallies.
+    pub stakes: Stakes,
     /// Cycles judged by their paths, and those rejected by one; and of them those of graphs
     /// that compare names of several bits.
     path_cycles: u64,
@@ -59,7 +70,7 @@ impl Coverage {
     }
 
     /// Counts a graph, by what its text says.
-    pub fn record_graph(&mut self, text: &[u8], outcome: &Outcome) {
+    pub fn record_graph(&mut self, text: &[u8], outputs: Outputs, outcome: &Outcome) {
         let lines: Vec<&[u8]> = text.split(|byte| *byte == b'\n').collect();
         let line = outcome.line as usize;
         if outcome.is_accepted() {
@@ -68,7 +79,7 @@ impl Coverage {
         } else if line > 0 && first_field(lines[line - 1]) == b"M" {
             *self.mode_refused.entry(outcome.number).or_default() += 1;
         }
-        self.kinds.record(text, outcome);
+        self.kinds.record(text, outputs, outcome);
     }
 
     /// Counts the cycles that were judged by the paths of a graph, and those rejected.
@@ -138,6 +149,7 @@ impl Coverage {
             }
         }
         gaps.extend(self.kinds.gaps());
+        gaps.extend(self.stakes.gaps());
         if self.path_rejected == 0 || self.path_rejected == self.path_cycles {
             gaps.push("paths".into());
         }
@@ -209,6 +221,7 @@ impl fmt::Display for Coverage {
             self.mode_refused(3)
         )?;
         writeln!(f, "{}", self.kinds)?;
+        writeln!(f, "{}", self.stakes)?;
         writeln!(
             f,
             "lines handed back: {} of the flywheel, {} of the handle, {} empty",

@@ -13,7 +13,7 @@
 
 use crate::damage::{change_fields, damage};
 use crate::random::Random;
-use reference::{formula_of_gates, Graph};
+use reference::{formula_of_gates, Graph, Outputs};
 
 const MAX_GRAPH_BYTES: usize = 32_768;
 const MAX_WIDTH: usize = 16;
@@ -617,8 +617,8 @@ fn near_size_limit(random: &mut Random) -> Vec<u8> {
     text.into_bytes()
 }
 
-/// A graph whose M is about 4,095, by operators added to a random graph; so M also tells how
-/// many edges were taken for terminal.
+/// A graph whose M is about 4,095, with or without checked, by operators added to a random
+/// graph; so M also tells how many edges were taken for terminal.
 fn near_variable_limit(random: &mut Random) -> Vec<u8> {
     let plan = Plan {
         signals: random.within(0..=63),
@@ -631,7 +631,8 @@ fn near_variable_limit(random: &mut Random) -> Vec<u8> {
     };
     let text = plan.text(random);
     let fillers = 14;
-    let Some(variables) = variables(&with_fillers(&text, fillers, 0)) else {
+    let outputs = random.pick(&[Outputs::Accept, Outputs::AcceptAndChecked]);
+    let Some(variables) = variables(&with_fillers(&text, fillers, 0), outputs) else {
         return text;
     };
     let due = random.within(4_092..=4_098);
@@ -639,7 +640,7 @@ fn near_variable_limit(random: &mut Random) -> Vec<u8> {
 }
 
 /// The text with self-loops on its first vertex that hold so many operators.
-fn with_fillers(text: &[u8], fillers: usize, operators: usize) -> Vec<u8> {
+pub fn with_fillers(text: &[u8], fillers: usize, operators: usize) -> Vec<u8> {
     let mut text = String::from_utf8_lossy(text).into_owned();
     let start = text
         .lines()
@@ -682,8 +683,8 @@ fn past_sixteen_bits(random: &mut Random) -> Vec<u8> {
 }
 
 /// M of a graph that is accepted but for its M and the buffer.
-pub fn variables(text: &[u8]) -> Option<usize> {
+pub fn variables(text: &[u8], outputs: Outputs) -> Option<usize> {
     let graph = Graph::parse(text).ok()?;
     let latches = graph.constant_bits + 2 * graph.edges.len();
-    Some(1 + graph.signal_bits + latches + formula_of_gates(&graph))
+    Some(1 + graph.signal_bits + latches + formula_of_gates(&graph, outputs))
 }

@@ -2,7 +2,7 @@
 
 use crate::compare::Outcome;
 use crate::graphs::variables;
-use reference::{parse_formula, Atom, Graph, Operand, Term};
+use reference::{parse_formula, Atom, Graph, Operand, Outputs, Term};
 use std::collections::{BTreeMap, BTreeSet};
 use std::fmt;
 
@@ -50,16 +50,16 @@ pub struct Kinds {
 
 impl Kinds {
     /// Counts a graph under each of its kinds.
-    pub fn record(&mut self, text: &[u8], outcome: &Outcome) {
+    pub fn record(&mut self, text: &[u8], outputs: Outputs, outcome: &Outcome) {
         let records = Records::of(text);
         let kinds = match outcome.is_accepted() {
             true => {
                 for width in widths(text, &records) {
                     *self.widths.entry(width).or_default() += 1;
                 }
-                accepted(text, &records)
+                accepted(text, outputs, &records)
             }
-            false => refused(text, &records, outcome),
+            false => refused(text, outputs, &records, outcome),
         };
         for kind in kinds {
             *self.met.entry(kind).or_default() += 1;
@@ -166,7 +166,7 @@ fn widths(text: &[u8], records: &Records) -> BTreeSet<(&'static str, usize)> {
     records.names.values().copied().chain(compared).collect()
 }
 
-fn accepted(text: &[u8], records: &Records) -> BTreeSet<&'static str> {
+fn accepted(text: &[u8], outputs: Outputs, records: &Records) -> BTreeSet<&'static str> {
     let mut kinds = BTreeSet::new();
     let graph = Graph::parse(text).expect("an accepted graph");
     if graph.signal_bits == 63 && records.has_wide("S") {
@@ -197,7 +197,7 @@ fn accepted(text: &[u8], records: &Records) -> BTreeSet<&'static str> {
             });
         }
     }
-    if operands(text).iter().any(is_equal) && variables(text) >= Some(4_000) {
+    if operands(text).iter().any(is_equal) && variables(text, outputs) >= Some(4_000) {
         kinds.insert("4,000 variables or more, with ==");
     }
     kinds
@@ -207,7 +207,12 @@ fn is_equal(operand: &Operand) -> bool {
     matches!(operand, Operand::Equal(..))
 }
 
-fn refused(text: &[u8], records: &Records, outcome: &Outcome) -> BTreeSet<&'static str> {
+fn refused(
+    text: &[u8],
+    outputs: Outputs,
+    records: &Records,
+    outcome: &Outcome,
+) -> BTreeSet<&'static str> {
     let mut kinds = BTreeSet::new();
     let mut add = |kind, is_met: bool| {
         if is_met {
@@ -216,7 +221,7 @@ fn refused(text: &[u8], records: &Records, outcome: &Outcome) -> BTreeSet<&'stat
     };
     if outcome.number == 11 {
         add("11 with ==", operands(text).iter().any(is_equal));
-        let is_past = variables(text) > Some(65_536);
+        let is_past = variables(text, outputs) > Some(65_536);
         add("11 at over 65,536 variables", is_past);
     }
     let Some(line) = (outcome.line as usize).checked_sub(1) else {

@@ -1,11 +1,13 @@
 //! Compares the proved library with the reference over seeded random and
 //! damaged inputs: returns, out-parameters and every cell of every buffer, also
 //! after refusals; the place of a line that is handed back in the caller's memory;
-//! and tallies, verdict bytes and the verdicts of runs with the paths of the graph.
+//! and tallies, output words, verdict bytes and the verdicts of runs with the paths of the
+//! graph.
 
 mod aigers;
 mod bench;
 mod cases;
+mod checked;
 mod compare;
 mod coverage;
 mod damage;
@@ -18,6 +20,7 @@ mod rates;
 mod round_trip;
 mod sequence;
 mod sessions;
+mod stakes;
 mod sweep;
 mod traces;
 mod widths;

@@ -37,7 +37,7 @@ pub fn pairs() -> Vec<Tally> {
     let mut pairs = Vec::new();
     for &cycles in &numbers {
         for &rejected in &numbers {
-            pairs.push(Tally { cycles, rejected });
+            pairs.push(of_two(cycles, rejected));
         }
     }
     pairs
@@ -54,7 +54,16 @@ pub fn any(random: &mut Random) -> Tally {
         4..=5 => random.within(0..=cycles as usize) as u32,
         _ => number(random),
     };
-    Tally { cycles, rejected }
+    of_two(cycles, rejected)
+}
+
+/// The call is not lent the third number.
+fn of_two(cycles: u32, rejected: u32) -> Tally {
+    Tally {
+        cycles,
+        rejected,
+        ..Tally::default()
+    }
 }
 
 /// A number of any count of bits, a power of ten or beside one, or near a limit.

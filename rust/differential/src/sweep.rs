@@ -1,9 +1,10 @@
 //! Every change of one byte or one number in a few small inputs, every short list of some
-//! lines as a graph, names of every width and short formulas over them, every pair of some
-//! numbers as a tally, sessions of every small kind, and session pages of every small kind
-//! and of the largest.
+//! lines as a graph, names of every width and short formulas over them, every count of
+//! outputs, every pair of some numbers as a tally and every three of some, sessions of every
+//! small kind, and session pages of every small kind and of the largest.
 
 use crate::bench::Bench;
+use crate::checked;
 use crate::compare::{Call, Lengths, Memory, Mismatch, Name};
 use crate::graphs::{MODES, WRONG_MODES};
 use crate::pages::{compare_page_into, needed, MAX_CYCLES};
@@ -23,6 +24,11 @@ const STRONG: &[u8] = b"M\tstrong\nV\ta\nE\ta\ta\t-\t1\t0\n";
 const WIDE: &[u8] = b"S\ta\t2\nK\tk\t2\nV\tv\nE\tv\tv\tt\ta==k\tk[1]\n";
 const AIGER: &[u8] = b"aag 6 2 3 1 1\n2\n4\n6 5\n8 12 1\n10 10 10\n12\n12 9 4\n";
 const NUMBERS: [u16; 14] = [6, 2, 3, 1, 1, 5, 0, 12, 1, 10, 10, 12, 9, 4];
+/// Has a terminal edge, and one that is not.
+const CHECKED: &[u8] = b"V\ta\nE\ta\ta\tt\t1\t0\nE\ta\ta\t-\t1\t1\n";
+/// Have two outputs.
+const AIGER_OF_TWO: &[u8] = b"aag 5 2 2 2 1\n2\n4\n6 10\n8 8 8\n11\n7\n10 9 4\n";
+const NUMBERS_OF_TWO: [u16; 13] = [5, 2, 2, 2, 1, 10, 0, 8, 8, 11, 7, 9, 4];
 const TRACE: &[u8] = b"10\n01\n11\n";
 const HANDLE: &[u8] = b"00\n01\n";
 
@@ -34,7 +40,9 @@ pub fn sweep(bench: &mut Bench) -> Result<usize, Mismatch> {
         (Name::Build, TERMINAL),
         (Name::Build, STRONG),
         (Name::Build, WIDE),
+        (Name::BuildChecked, CHECKED),
         (Name::Read, AIGER),
+        (Name::Read, AIGER_OF_TWO),
     ] {
         for changed in changed_texts(text) {
             sweep_call(bench, Call::on_bytes(name, changed))?;
@@ -45,25 +53,32 @@ pub fn sweep(bench: &mut Bench) -> Result<usize, Mismatch> {
         sweep_call(bench, Call::on_bytes(Name::Build, text))?;
         count += 1;
     }
-    for changed in changed_texts(TRACE) {
-        sweep_call(bench, Call::on_net(Name::Run, NUMBERS.to_vec(), changed))?;
-        count += 1;
+    for (name, net, bytes) in [
+        (Name::Run, &NUMBERS[..], TRACE),
+        (Name::RunChecked, &NUMBERS_OF_TWO, TRACE),
+        (Name::Step, &NUMBERS, b"01"),
+        (Name::StepChecked, &NUMBERS_OF_TWO, b"01"),
+    ] {
+        for changed in changed_texts(bytes) {
+            sweep_call(bench, Call::on_net(name, net.to_vec(), changed))?;
+            count += 1;
+        }
     }
-    for changed in changed_texts(b"01") {
-        sweep_call(bench, Call::on_net(Name::Step, NUMBERS.to_vec(), changed))?;
-        count += 1;
-    }
-    for net in changed_numbers() {
+    for net in [changed_numbers(&NUMBERS), changed_numbers(&NUMBERS_OF_TWO)].concat() {
         for (name, bytes) in [
             (Name::Write, &b""[..]),
             (Name::Start, b""),
             (Name::Step, b"01"),
             (Name::Run, TRACE),
+            (Name::StartChecked, b""),
+            (Name::StepChecked, b"01"),
+            (Name::RunChecked, TRACE),
         ] {
             sweep_call(bench, Call::on_net(name, net.clone(), bytes.to_vec()))?;
             count += 1;
         }
     }
+    count += checked::sweep(bench)?;
     for tally in rates::pairs() {
         rates::compare_rate(bench, tally)?;
         count += 1;
@@ -144,12 +159,12 @@ fn lists_of_lines() -> Vec<Vec<u8>> {
 }
 
 /// The numbers with each of them changed to each that may matter, and cut off.
-fn changed_numbers() -> Vec<Vec<u16>> {
-    let mut changed = vec![NUMBERS.to_vec()];
-    for place in 0..NUMBERS.len() {
-        changed.push(NUMBERS[..place].to_vec());
+fn changed_numbers(numbers: &[u16]) -> Vec<Vec<u16>> {
+    let mut changed = vec![numbers.to_vec()];
+    for place in 0..numbers.len() {
+        changed.push(numbers[..place].to_vec());
         for number in (0..20).chain([64, 65, 4_095, 4_096, 8_191, 8_192, u16::MAX]) {
-            let mut net = NUMBERS.to_vec();
+            let mut net = numbers.to_vec();
             net[place] = number;
             changed.push(net);
         }

@@ -4,6 +4,12 @@
 //! Each function is one call of the C interface; `first_broken` hands back a part of what
 //! it was lent, and makes a second call where that is empty. A refused call leaves every buffer and the tally as they
 //! were; a longer buffer keeps its surplus.
+//!
+//! A circuit has one output, accept, or two, accept and checked. Every function that takes a
+//! netlist or a file takes either. With two outputs a session is run from its start on by
+//! `start_checked`, `step_checked` and `run_checked`, which count the cycles in which a rule
+//! was at stake; `start`, `step` and `run` are for callers who do not ask for that number, and
+//! a session that mixes both counts it in part only.
 
 pub mod raw;
 
@@ -28,6 +34,9 @@ impl Refusal {
     }
 }
 
+/// How many numbers the longest netlist has: 8,195 with two outputs, 8,194 with one.
+pub const LONGEST_NETLIST: usize = 8_195;
+
 /// How many cycles were run since start, and how many of them were rejected.
 #[derive(Clone, Copy, Debug, Default, PartialEq, Eq)]
 pub struct Tally {
@@ -35,11 +44,52 @@ pub struct Tally {
     pub rejected: u32,
 }
 
+/// The tally of a session whose circuit has the output checked.
+///
+/// `checked` counts the cycles in which a rule was at stake: those in which some setting of
+/// the constants and some path from the latest init to a terminal edge met all antecedents. A
+/// session in which it is 0 tested nothing, whatever `rejected` says. With a circuit of one
+/// output it does not move. With one of two outputs that was not built of a graph it counts the
+/// cycles in which the second output is 1 in some lane.
+#[derive(Clone, Copy, Debug, Default, PartialEq, Eq)]
+pub struct CheckedTally {
+    pub cycles: u32,
+    pub rejected: u32,
+    pub checked: u32,
+}
+
+impl From<CheckedTally> for Tally {
+    fn from(tally: CheckedTally) -> Tally {
+        Tally {
+            cycles: tally.cycles,
+            rejected: tally.rejected,
+        }
+    }
+}
+
+/// The output words of one cycle, a bit for each lane; `checked` is 0 where the circuit has
+/// one output.
+#[derive(Clone, Copy, Debug, PartialEq, Eq)]
+pub struct Words {
+    pub accept: u64,
+    pub checked: u64,
+}
+
 /// Of one run: rejected exactly when any cycle of it was.
 #[derive(Clone, Copy, Debug, PartialEq, Eq)]
 pub enum Verdict {
     Accepted,
     Rejected,
+}
+
+impl Verdict {
+    /// As a run answers it.
+    fn of(number: u64) -> Verdict {
+        match number {
+            0 => Verdict::Accepted,
+            _ => Verdict::Rejected,
+        }
+    }
 }
 
 /// Rejections in a million cycles: rejected × 1,000,000 = whole × cycles + remainder,
@@ -82,6 +132,19 @@ pub fn build(graph: &[u8], net: &mut [u16]) -> Result<u64, Refusal> {
     Ok(gates)
 }
 
+/// Builds the circuit that `build` builds, with a second output, checked: high in a lane
+/// where some path from the latest init to a terminal edge met all antecedents, its
+/// consequents met or not. Returns the number of its gates: with T terminal edges 2T − 1 more
+/// than `build`; with none as many, and checked is 0.
+///
+/// The refusals 11 and 12 are for this circuit, which has more variables and numbers than that
+/// of `build`.
+pub fn build_checked(graph: &[u8], net: &mut [u16]) -> Result<u64, Refusal> {
+    let mut gates = 0;
+    Refusal::check(raw::build_checked(graph, net, &mut gates))?;
+    Ok(gates)
+}
+
 /// Writes a netlist as AIGER text; returns the text's length in bytes.
 pub fn write(net: &[u16], text: &mut [u8]) -> Result<usize, Refusal> {
     let mut length = 0;
@@ -89,7 +152,7 @@ pub fn write(net: &[u16], text: &mut [u8]) -> Result<usize, Refusal> {
     Ok(length as usize)
 }
 
-/// Reads an AIGER text; returns how many numbers the netlist has.
+/// Reads an AIGER text; returns how many numbers the netlist has, at most `LONGEST_NETLIST`.
 pub fn read(text: &[u8], net: &mut [u16]) -> Result<usize, Refusal> {
     let mut length = 0;
     Refusal::check(raw::read(text, net, &mut length))?;
@@ -106,7 +169,7 @@ pub fn start(net: &[u16], latches: &mut [u64], tally: &mut Tally) -> Result<(), 
     ))
 }
 
-/// Simulates one cycle; returns the output word, one bit a lane.
+/// Simulates one cycle; returns the word of the first output, one bit a lane.
 pub fn step(
     net: &[u16],
     cycle: &[u8],
@@ -148,10 +211,77 @@ pub fn run(
         &mut tally.rejected,
         &mut verdict,
     ))?;
-    Ok(match verdict {
-        0 => Verdict::Accepted,
-        _ => Verdict::Rejected,
-    })
+    Ok(Verdict::of(verdict))
+}
+
+/// Sets the latch words to their resets and all three numbers of the tally to zero.
+pub fn start_checked(
+    net: &[u16],
+    latches: &mut [u64],
+    tally: &mut CheckedTally,
+) -> Result<(), Refusal> {
+    Refusal::check(raw::start_checked(
+        net,
+        latches,
+        &mut tally.cycles,
+        &mut tally.rejected,
+        &mut tally.checked,
+    ))
+}
+
+/// Simulates one cycle; returns the words of both outputs. The cycle is rejected where a lane
+/// of accept is 0, and a rule was at stake in it where a lane of checked is 1.
+///
+/// Refused with 17 where any of the three numbers is at 4,294,967,295, also where it would not
+/// move.
+pub fn step_checked(
+    net: &[u16],
+    cycle: &[u8],
+    latches: &mut [u64],
+    values: &mut [u64],
+    tally: &mut CheckedTally,
+) -> Result<Words, Refusal> {
+    let (mut accept, mut checked) = (0, 0);
+    Refusal::check(raw::step_checked(
+        net,
+        cycle,
+        latches,
+        values,
+        &mut tally.cycles,
+        &mut tally.rejected,
+        &mut tally.checked,
+        &mut accept,
+        &mut checked,
+    ))?;
+    Ok(Words { accept, checked })
+}
+
+/// Simulates a trace as `run` does, and counts also the cycles in which a rule was at stake.
+/// Verdict bytes and verdict are those of the first output, as in `run`.
+///
+/// Refused with 17 where any of the three numbers, added to the cycles of the trace, would
+/// pass 4,294,967,295, also where it would not move.
+pub fn run_checked(
+    net: &[u16],
+    trace: &[u8],
+    latches: &mut [u64],
+    values: &mut [u64],
+    verdicts: &mut [u8],
+    tally: &mut CheckedTally,
+) -> Result<Verdict, Refusal> {
+    let mut verdict = 0;
+    Refusal::check(raw::run_checked(
+        net,
+        trace,
+        latches,
+        values,
+        verdicts,
+        &mut tally.cycles,
+        &mut tally.rejected,
+        &mut tally.checked,
+        &mut verdict,
+    ))?;
+    Ok(Verdict::of(verdict))
 }
 
 /// Works out a tally's rejections in a million cycles; refused if it has no cycles, or

@@ -67,6 +67,57 @@ mod c {
             verdict: *mut u64,
         ) -> u64;
 
+        pub fn ludo_build_checked(
+            graph: *const u8,
+            graph_len: usize,
+            net: *mut u16,
+            net_len: usize,
+            gates: *mut u64,
+        ) -> u64;
+
+        pub fn ludo_start_checked(
+            net: *const u16,
+            net_len: usize,
+            latches: *mut u64,
+            latches_len: usize,
+            cycles: *mut u32,
+            rejected: *mut u32,
+            checked: *mut u32,
+        ) -> u64;
+
+        pub fn ludo_step_checked(
+            net: *const u16,
+            net_len: usize,
+            cycle: *const u8,
+            cycle_len: usize,
+            latches: *mut u64,
+            latches_len: usize,
+            values: *mut u64,
+            values_len: usize,
+            cycles: *mut u32,
+            rejected: *mut u32,
+            checked: *mut u32,
+            word: *mut u64,
+            checked_word: *mut u64,
+        ) -> u64;
+
+        pub fn ludo_run_checked(
+            net: *const u16,
+            net_len: usize,
+            trace: *const u8,
+            trace_len: usize,
+            latches: *mut u64,
+            latches_len: usize,
+            values: *mut u64,
+            values_len: usize,
+            verdicts: *mut u8,
+            verdicts_len: usize,
+            cycles: *mut u32,
+            rejected: *mut u32,
+            checked: *mut u32,
+            verdict: *mut u64,
+        ) -> u64;
+
         pub fn ludo_per_million(
             cycles: u32,
             rejected: u32,
@@ -113,7 +164,7 @@ mod c {
     }
 }
 
-// SAFETY, of all ten: every pointer comes from a reference or a slice that lives
+// SAFETY, of all fourteen: every pointer comes from a reference or a slice that lives
 // through the call, with that slice's own length; the exclusive borrows keep what
 // the library writes apart from all else; the library keeps no pointer.
 
@@ -218,6 +269,103 @@ pub fn run(
             verdicts.len(),
             cycles,
             rejected,
+            verdict,
+        )
+    }
+}
+
+pub fn build_checked(graph: &[u8], net: &mut [u16], gates: &mut u64) -> u64 {
+    unsafe {
+        c::ludo_build_checked(
+            graph.as_ptr(),
+            graph.len(),
+            net.as_mut_ptr(),
+            net.len(),
+            gates,
+        )
+    }
+}
+
+pub fn start_checked(
+    net: &[u16],
+    latches: &mut [u64],
+    cycles: &mut u32,
+    rejected: &mut u32,
+    checked: &mut u32,
+) -> u64 {
+    unsafe {
+        c::ludo_start_checked(
+            net.as_ptr(),
+            net.len(),
+            latches.as_mut_ptr(),
+            latches.len(),
+            cycles,
+            rejected,
+            checked,
+        )
+    }
+}
+
+// As many arguments as the C function has.
+#[allow(clippy::too_many_arguments)]
+pub fn step_checked(
+    net: &[u16],
+    cycle: &[u8],
+    latches: &mut [u64],
+    values: &mut [u64],
+    cycles: &mut u32,
+    rejected: &mut u32,
+    checked: &mut u32,
+    word: &mut u64,
+    checked_word: &mut u64,
+) -> u64 {
+    unsafe {
+        c::ludo_step_checked(
+            net.as_ptr(),
+            net.len(),
+            cycle.as_ptr(),
+            cycle.len(),
+            latches.as_mut_ptr(),
+            latches.len(),
+            values.as_mut_ptr(),
+            values.len(),
+            cycles,
+            rejected,
+            checked,
+            word,
+            checked_word,
+        )
+    }
+}
+
+// As many arguments as the C function has.
+#[allow(clippy::too_many_arguments)]
+pub fn run_checked(
+    net: &[u16],
+    trace: &[u8],
+    latches: &mut [u64],
+    values: &mut [u64],
+    verdicts: &mut [u8],
+    cycles: &mut u32,
+    rejected: &mut u32,
+    checked: &mut u32,
+    verdict: &mut u64,
+) -> u64 {
+    unsafe {
+        c::ludo_run_checked(
+            net.as_ptr(),
+            net.len(),
+            trace.as_ptr(),
+            trace.len(),
+            latches.as_mut_ptr(),
+            latches.len(),
+            values.as_mut_ptr(),
+            values.len(),
+            verdicts.as_mut_ptr(),
+            verdicts.len(),
+            cycles,
+            rejected,
+            checked,
             verdict,
         )
     }

@@ -1,10 +1,11 @@
 //! The safe calls: document 01's graph G, the edges that are terminal, names wider than a bit, the
-//! words of a start, the verdict of each run, the rate of each tally, the line handed back from each
-//! session, the page of each run, empty slices, refusals.
+//! words of a start, the verdict of each run, the cycles in which a rule was at stake, the rate of
+//! each tally, the line handed back from each session, the page of each run, empty slices, refusals.
 
 use ludopoplar::{
-    broken_check, broken_line, build, first_broken, per_million, raw, read, run, session_page,
-    start, step, write, Part, Rate, Refusal, Tally, Trace, Verdict,
+    broken_check, broken_line, build, build_checked, first_broken, per_million, raw, read, run,
+    run_checked, session_page, start, start_checked, step, step_checked, write, CheckedTally, Part,
+    Rate, Refusal, Tally, Trace, Verdict, Words, LONGEST_NETLIST,
 };
 use std::time::Instant;
 
@@ -241,6 +242,334 @@ fn refused_widths() {
         assert_eq!(refused, Err(Refusal { number, line }), "{graph}");
         assert_eq!(net, [9; 100], "{graph}");
     }
+}
+
+/// Document 02, No. 7: the file of G with checked; the last gate is alive of its edge.
+#[test]
+fn file_with_checked() {
+    let due = b"aag 13 3 2 2 8\n2\n4\n6\n8 18\n10 25\n24\n27\n\
+        12 8 3\n14 10 3\n16 4 2\n18 16 6\n20 16 7\n22 4 0\n24 23 21\n26 24 19\n";
+    let (mut net, mut text) = ([9; 30], [b'x'; 200]);
+    assert_eq!(build_checked(G, &mut net), Ok(8));
+    assert_eq!(net[27..], [9; 3]);
+    let length = write(&net, &mut text).unwrap();
+    assert_eq!(text[..length], *due);
+    assert!(text[length..].iter().all(|byte| *byte == b'x'));
+    let mut back = [9; 30];
+    assert_eq!(read(due, &mut back), Ok(27));
+    assert_eq!(back, net);
+    for lent in [0, 24, 26] {
+        let mut short = vec![9; lent];
+        let refused = Refusal {
+            number: 12,
+            line: 0,
+        };
+        assert_eq!(build_checked(G, &mut short), Err(refused));
+        assert_eq!(short, vec![9; lent]);
+    }
+}
+
+/// Gates without and with checked, the outputs, and the operands of as many gates as are added.
+#[test]
+fn gates_of_checked() {
+    let three = "V\ta\n".to_string() + &"E\ta\ta\tt\t1\t1\n".repeat(3);
+    let two = [G, b"E\tb\tb\tt\tp\t1\n"].concat();
+    let none = b"M\tterminal\nV\ta\nE\ta\ta\t-\t1\t1\n";
+    let graphs = [
+        (&b"V\ta\n"[..], [0, 0], [1, 0], &[][..]),
+        (none, [8, 8], [1, 0], &[]),
+        (&two, [17, 20], [48, 55], &[36, 31, 46, 41, 52, 50]),
+        (
+            three.as_bytes(),
+            [28, 33],
+            [70, 81],
+            &[46, 41, 56, 51, 66, 61, 74, 72, 78, 76],
+        ),
+    ];
+    for (graph, gates, outputs, operands) in graphs {
+        let shown = graph.escape_ascii();
+        let mut net = [5; 100];
+        assert_eq!(build(graph, &mut net), Ok(gates[0]), "{shown}");
+        assert_eq!(build_checked(graph, &mut net), Ok(gates[1]), "{shown}");
+        let [latches, gates] = [2, 4].map(|at| usize::from(net[at]));
+        let numbers = &net[..5 + 2 * latches + 2 + 2 * gates];
+        assert_eq!(numbers[5 + 2 * latches..][..2], outputs, "{shown}");
+        assert!(numbers.ends_with(operands), "{shown}");
+    }
+    // 4,080 variables without checked, 4,215 with it.
+    let labels = [["p"; 9].join("="), ["p"; 9].join("^")].join("\t");
+    let graph = format!(
+        "S\tp\nV\ta\n{}",
+        format!("E\ta\ta\tt\t{labels}\n").repeat(68)
+    );
+    let mut net = [9; LONGEST_NETLIST];
+    let refused = Refusal {
+        number: 11,
+        line: 0,
+    };
+    assert_eq!(build_checked(graph.as_bytes(), &mut net), Err(refused));
+    assert_eq!(net, [9; LONGEST_NETLIST]);
+    assert!(build(graph.as_bytes(), &mut net).is_ok());
+}
+
+const ALL: u64 = u64::MAX;
+/// The lanes in which the first constant bit is 1.
+const ODD: u64 = 0xAAAA_AAAA_AAAA_AAAA;
+
+fn checked_tally([cycles, rejected, checked]: [u32; 3]) -> CheckedTally {
+    CheckedTally {
+        cycles,
+        rejected,
+        checked,
+    }
+}
+
+/// Steps a netlist through a trace: the tally, and both words of each cycle. A run leaves the same
+/// tally, latch words and value words.
+fn stepped(net: &[u16], trace: &[u8]) -> (CheckedTally, Vec<[u64; 2]>) {
+    let inputs = usize::from(net[1]);
+    let (mut latches, mut values) = ([5; 10], [5; 80]);
+    let mut tally = checked_tally([7, 8, 9]);
+    assert_eq!(start_checked(net, &mut latches, &mut tally), Ok(()));
+    assert_eq!(tally, CheckedTally::default());
+    let (started, mut counted) = (latches, tally);
+    let mut words = Vec::new();
+    for line in trace.chunks_exact(inputs + 1) {
+        let cycle = &line[..inputs];
+        let stepped = step_checked(net, cycle, &mut latches, &mut values, &mut tally);
+        let Words { accept, checked } = stepped.unwrap();
+        words.push([accept, checked]);
+    }
+    let (mut run_latches, mut run_values) = (started, [5; 80]);
+    let mut verdicts = vec![5; words.len()];
+    let verdict = run_checked(
+        net,
+        trace,
+        &mut run_latches,
+        &mut run_values,
+        &mut verdicts,
+        &mut counted,
+    );
+    let due: Vec<u8> = words
+        .iter()
+        .map(|words| u8::from(words[0] != ALL))
+        .collect();
+    assert_eq!(verdicts, due);
+    assert_eq!(verdict == Ok(Verdict::Rejected), due.contains(&1));
+    assert_eq!((counted, run_latches), (tally, latches));
+    assert_eq!(run_values, values);
+    (tally, words)
+}
+
+/// With checked where `outputs` is 2: the tally, and each second word.
+fn session(graph: &[u8], outputs: u16, trace: &[u8]) -> ([u32; 3], Vec<u64>) {
+    let mut net = [5; 200];
+    let gates = match outputs {
+        1 => build(graph, &mut net),
+        _ => build_checked(graph, &mut net),
+    };
+    assert!(gates.is_ok());
+    assert_eq!(net[3], outputs);
+    let (tally, words) = stepped(&net, trace);
+    let numbers = [tally.cycles, tally.rejected, tally.checked];
+    (numbers, words.iter().map(|words| words[1]).collect())
+}
+
+#[test]
+fn rules_at_stake() {
+    const CONSTANT: &[u8] = b"S\tp\nK\tk\nV\ta\nE\ta\ta\tt\tk\tp\n";
+    const LATE: &[u8] = b"V\ta\nV\tb\nE\ta\tb\t-\t1\t1\nE\tb\tb\tt\t1\t1\n";
+    const ANTECEDENT: &[u8] = b"S\tp\nV\ta\nE\ta\ta\tt\tp\t1\n";
+    const CONDEMNED: &[u8] = b"S\tp\nV\ta\nE\ta\ta\tt\t1\tp\n";
+    let sessions = [
+        (G, 2, &b"110\n111\n010\n"[..], [3, 1, 2], &[ALL, ALL, 0][..]),
+        (G, 1, b"110\n111\n010\n", [3, 1, 0], &[0, 0, 0]),
+        (G, 2, b"010\n", [1, 0, 0], &[0]),
+        (G, 2, b"", [0, 0, 0], &[]),
+        (CONSTANT, 2, b"11\n", [1, 0, 1], &[ODD]),
+        (CONSTANT, 2, b"10\n", [1, 1, 1], &[ODD]),
+        (ANTECEDENT, 2, b"10\n", [1, 0, 0], &[0]),
+        (LATE, 2, b"1\n0\n", [2, 0, 1], &[0, ALL]),
+        (CONDEMNED, 2, b"10\n01\n", [2, 2, 2], &[ALL, ALL]),
+    ];
+    for (graph, outputs, trace, tally, second) in sessions {
+        let shown = (graph.escape_ascii(), trace.escape_ascii());
+        let found = session(graph, outputs, trace);
+        assert_eq!(found, (tally, second.to_vec()), "{} {}", shown.0, shown.1);
+    }
+}
+
+/// A netlist that no graph gives: the second output counts all the same.
+#[test]
+fn two_outputs_of_any_netlist() {
+    let net = [1, 1, 0, 2, 0, 3, 2];
+    let (tally, words) = stepped(&net, b"1\n0\n1\n");
+    assert_eq!(tally, checked_tally([3, 2, 2]));
+    assert_eq!(words, [[0, ALL], [ALL, 0], [0, ALL]]);
+}
+
+/// The old names take a netlist with two outputs; the new ones take one with one.
+#[test]
+fn old_names_with_two_outputs() {
+    let mut net = [0; 27];
+    assert_eq!(build_checked(G, &mut net), Ok(8));
+    let (mut latches, mut values, mut verdicts) = ([5; 2], [5; 14], [5; 3]);
+    let mut tally = Tally::default();
+    start(&net, &mut latches, &mut tally).unwrap();
+    let trace = b"110\n111\n010\n";
+    let verdict = run(
+        &net,
+        trace,
+        &mut latches,
+        &mut values,
+        &mut verdicts,
+        &mut tally,
+    );
+    assert_eq!((verdict, verdicts), (Ok(Verdict::Rejected), [1, 0, 0]));
+    let word = step(&net, b"110", &mut latches, &mut values, &mut tally);
+    assert_eq!(word, Ok(0));
+    let (due, _) = stepped(&net, b"110\n111\n010\n110\n");
+    assert_eq!(tally, Tally::from(due));
+}
+
+/// 17 for each of the three numbers by itself, with one output too.
+#[test]
+fn full_tallies() {
+    let mut two = [0; 27];
+    assert_eq!(build_checked(G, &mut two), Ok(8));
+    let full = Refusal {
+        number: 17,
+        line: 0,
+    };
+    for (net, moved) in [(&net_of_g()[..], 0), (&two, 1)] {
+        for place in 0..3 {
+            let with = |number| {
+                let mut numbers = [3, 2, 1];
+                numbers[place] = number;
+                numbers
+            };
+            let (mut latches, mut values, mut verdicts) = ([5; 2], [5; 14], [5; 2]);
+            let mut tally = checked_tally(with(u32::MAX));
+            let refused = step_checked(net, b"110", &mut latches, &mut values, &mut tally);
+            assert_eq!(refused, Err(full));
+            let mut run = |trace: &[u8], tally: &mut CheckedTally| {
+                let (latches, values) = (&mut latches, &mut values);
+                run_checked(net, trace, latches, values, &mut verdicts, tally)
+            };
+            assert_eq!(run(b"110\n", &mut tally), Err(full));
+            assert_eq!(run(b"", &mut tally), Ok(Verdict::Accepted));
+            assert_eq!(tally, checked_tally(with(u32::MAX)));
+            tally = checked_tally(with(u32::MAX - 1));
+            assert_eq!(run(b"110\n110\n", &mut tally), Err(full));
+            assert_eq!(tally, checked_tally(with(u32::MAX - 1)));
+            assert_eq!(run(b"110\n", &mut tally), Ok(Verdict::Rejected));
+            let [cycles, rejected, checked] = with(u32::MAX - 1);
+            assert_eq!(
+                tally,
+                checked_tally([cycles + 1, rejected + 1, checked + moved])
+            );
+        }
+    }
+}
+
+/// How many outputs a file or a netlist may have.
+#[test]
+fn one_or_two_outputs() {
+    let files = [
+        (&b"aag 1 1 0 0 0\n2\n"[..], Err((14, 1))),
+        (b"aag 1 1 0 1 0\n2\n2\n", Ok(6)),
+        (b"aag 1 1 0 1 0\n2\n2\n3\n", Err((13, 4))),
+        (b"aag 1 1 0 2 0\n2\n2\n", Err((13, 4))),
+        (b"aag 1 1 0 2 0\n2\n2\n3\n", Ok(7)),
+        (b"aag 1 1 0 2 0\n2\n2\n4\n", Err((14, 4))),
+        (b"aag 1 1 0 3 0\n2\n2\n3\n2\n", Err((14, 1))),
+    ];
+    for (file, due) in files {
+        let due = due.map_err(|(number, line)| Refusal { number, line });
+        assert_eq!(read(file, &mut [0; 10]), due, "{}", file.escape_ascii());
+    }
+    let no_netlist = Refusal {
+        number: 16,
+        line: 0,
+    };
+    for outputs in 0..=4 {
+        let net = [1, 1, 0, outputs, 0, 2, 2, 2, 2];
+        let mut tally = checked_tally([7, 8, 9]);
+        let answer = start_checked(&net, &mut [], &mut tally);
+        match outputs {
+            1 | 2 => assert_eq!((answer, tally), (Ok(()), CheckedTally::default())),
+            _ => {
+                let left = checked_tally([7, 8, 9]);
+                assert_eq!((answer, tally), (Err(no_netlist), left));
+                let mut values = [5; 2];
+                let refused = step_checked(&net, b"1", &mut [], &mut values, &mut tally);
+                assert_eq!((refused, tally), (Err(no_netlist), left));
+                assert_eq!(write(&net, &mut [0; 100]), Err(no_netlist));
+            }
+        }
+    }
+}
+
+#[test]
+fn longest_netlists() {
+    let latches = [8_191, 1].repeat(4_094);
+    let gates: Vec<u16> = (2..=4_095u16).flat_map(|own| [2 * own - 1; 2]).collect();
+    for outputs in [1, 2] {
+        let of = |counts: [u16; 2]| [4_095, 1, counts[0], outputs, counts[1]];
+        let literals = vec![8_191; usize::from(outputs)];
+        for net in [
+            [&of([4_094, 0]), &latches[..], &literals].concat(),
+            [&of([0, 4_094]), &literals[..], &gates].concat(),
+        ] {
+            assert_eq!(net.len(), LONGEST_NETLIST - 2 + usize::from(outputs));
+            let (mut text, mut back) = (vec![0; 65_536], vec![9; LONGEST_NETLIST]);
+            let length = write(&net, &mut text).unwrap();
+            assert_eq!(read(&text[..length], &mut back), Ok(net.len()));
+            assert_eq!(back[..net.len()], net);
+            let (mut latches, mut values) = (vec![5; 4_094], vec![5; 4_096]);
+            let mut tally = CheckedTally::default();
+            start_checked(&net, &mut latches, &mut tally).unwrap();
+            let words = step_checked(&net, b"1", &mut latches, &mut values, &mut tally).unwrap();
+            let second = if outputs == 2 { words.accept } else { 0 };
+            assert_eq!(words.checked, second);
+        }
+    }
+}
+
+/// The second word and the third number too.
+#[test]
+fn refused_checked_calls_leave_all_as_it_was() {
+    let mut net = [0; 27];
+    assert_eq!(build_checked(G, &mut net), Ok(8));
+    let calls = [
+        (&b"11"[..], 14, 0, (15, 1)),
+        (b"11x", 13, 0, (15, 1)),
+        (b"110", 13, u32::MAX, (12, 0)),
+        (b"110", 14, u32::MAX, (17, 0)),
+    ];
+    for (cycle, lent, third, (number, line)) in calls {
+        let (mut latches, mut values) = ([5; 2], [6; 14]);
+        let (mut cycles, mut rejected, mut checked) = (3, 2, third);
+        let (mut word, mut checked_word) = (77, 78);
+        let code = raw::step_checked(
+            &net,
+            cycle,
+            &mut latches,
+            &mut values[..lent],
+            &mut cycles,
+            &mut rejected,
+            &mut checked,
+            &mut word,
+            &mut checked_word,
+        );
+        assert_eq!(code, number << 32 | line);
+        assert_eq!((latches, values), ([5; 2], [6; 14]));
+        assert_eq!((cycles, rejected, checked), (3, 2, third));
+        assert_eq!((word, checked_word), (77, 78));
+    }
+    let mut gates = 77;
+    let code = raw::build_checked(G, &mut [0; 26], &mut gates);
+    assert_eq!((code, gates), (12 << 32, 77));
 }
 
 /// Document 02, No. 8: tallies as cycles and rejected, rates as whole part and remainder.
@@ -705,6 +1034,7 @@ fn start_words() {
 fn empty_slices() {
     let refusal = |number, line| Refusal { number, line };
     assert_eq!(build(b"", &mut []), Err(refusal(10, 0)));
+    assert_eq!(build_checked(b"", &mut []), Err(refusal(10, 0)));
     assert_eq!(read(b"", &mut []), Err(refusal(13, 1)));
     assert_eq!(write(&[], &mut []), Err(refusal(16, 0)));
     assert_eq!(session_page(b"", &[], &mut []), Err(refusal(22, 0)));
@@ -714,6 +1044,10 @@ fn empty_slices() {
     let mut tally = Tally::default();
     assert_eq!(start(&net, &mut [], &mut tally), Ok(()));
     let verdict = run(&net, b"", &mut [], &mut [7; 2], &mut [], &mut tally);
+    assert_eq!(verdict, Ok(Verdict::Accepted));
+    let mut tally = CheckedTally::default();
+    assert_eq!(start_checked(&net, &mut [], &mut tally), Ok(()));
+    let verdict = run_checked(&net, b"", &mut [], &mut [7; 2], &mut [], &mut tally);
     assert_eq!(verdict, Ok(Verdict::Accepted));
 }
 

@@ -25,7 +25,7 @@ pub fn write(net: &[u16], text: &mut [u8]) -> Result<usize, Refusal> {
 }
 
 /// "Header `aag M I L O A`; input literals; latches `literal next`, with reset as
-/// third number where not 0; output; gates `literal r0 r1`."
+/// third number where not 0; output; gates `literal r0 r1`." A second output has the next line.
 fn file(netlist: &Netlist) -> String {
     let header = &netlist.header;
     let [m, i, l, o, a] = header.numbers();
@@ -44,7 +44,9 @@ fn file(netlist: &Netlist) -> String {
             reset => line(&[own.0, latch.next.0, reset.number(own)]),
         }
     }
-    line(&[netlist.output.0]);
+    for output in &netlist.outputs {
+        line(&[output.0]);
+    }
     for (index, gate) in netlist.gates.iter().enumerate() {
         line(&[header.gate(index).literal().0, gate.r0.0, gate.r1.0]);
     }
@@ -71,8 +73,10 @@ fn parse(text: &[u8]) -> Result<Netlist, Refusal> {
         let reset = numbers.get(2).copied().unwrap_or(0);
         reader.within_limits(netlist.add_latch(numbers[1], reset))?;
     }
-    let numbers = reader.numbers(b"", 1..=1)?;
-    reader.within_limits(netlist.set_output(numbers[0]))?;
+    for _ in 0..header.outputs {
+        let numbers = reader.numbers(b"", 1..=1)?;
+        reader.within_limits(netlist.add_output(numbers[0]))?;
+    }
     for index in 0..header.gates as usize {
         let numbers = reader.numbers(b"", 3..=3)?;
         reader.literal(numbers[0], header.gate(index).literal())?;
@@ -148,6 +152,9 @@ mod tests {
 
     const FILE: &str = "aag 5 1 3 1 1,2,4 2,6 10 1,8 8 8,11,10 9 2";
     const NUMBERS: [u16; 14] = [5, 1, 3, 1, 1, 2, 0, 10, 1, 8, 8, 11, 9, 2];
+    /// The same with a second output.
+    const FILE_OF_TWO: &str = "aag 5 1 3 2 1,2,4 2,6 10 1,8 8 8,11,4,10 9 2";
+    const NUMBERS_OF_TWO: [u16; 15] = [5, 1, 3, 2, 1, 2, 0, 10, 1, 8, 8, 11, 4, 9, 2];
 
     fn read_all(text: &[u8]) -> Result<Vec<u16>, (u8, u32)> {
         let mut net = vec![0; 8_200];
@@ -162,11 +169,13 @@ mod tests {
 
     #[test]
     fn reads_and_writes() {
-        assert_eq!(read_all(&lines_text(FILE)).unwrap(), NUMBERS);
-        let mut text = vec![b'x'; 100];
-        let length = write(&NUMBERS, &mut text).unwrap();
-        assert_eq!(text[..length], lines_text(FILE));
-        assert!(text[length..].iter().all(|byte| *byte == b'x'));
+        for (file, numbers) in [(FILE, &NUMBERS[..]), (FILE_OF_TWO, &NUMBERS_OF_TWO)] {
+            assert_eq!(read_all(&lines_text(file)).unwrap(), numbers);
+            let mut text = vec![b'x'; 100];
+            let length = write(numbers, &mut text).unwrap();
+            assert_eq!(text[..length], lines_text(file));
+            assert!(text[length..].iter().all(|byte| *byte == b'x'));
+        }
     }
 
     #[test]
@@ -182,8 +191,8 @@ mod tests {
         assert_eq!(read_all(&buffer), Ok(vec![1, 1, 0, 1, 0, 2]));
         let inverter = lines_text("aag 1 1 0 1 0,2,3");
         assert_eq!(read_all(&inverter), Ok(vec![1, 1, 0, 1, 0, 3]));
-        // Its constants have no input, its AND gate the smaller operand first,
-        // its toggle two outputs.
+        // Its constants and its toggle have no input, its AND gate the smaller
+        // operand first.
         assert_eq!(refused("aag 0 0 0 1 0,0"), (14, 1));
         assert_eq!(refused("aag 3 2 0 1 1,2,4,6,6 2 4"), (14, 5));
         assert_eq!(refused("aag 1 0 1 2 0,2 3,2,3"), (14, 1));
@@ -208,6 +217,11 @@ mod tests {
             (FILE.replace("10 9 2", "10 9 2 2"), 7),
             (FILE.replace("10 9 2", "10 9 -2"), 7),
             (FILE.replace(",10 9 2", ""), 7),
+            (FILE.replace("3 1 1,", "3 2 1,"), 7),
+            (FILE_OF_TWO.replace("3 2 1,", "3 1 1,"), 7),
+            (FILE_OF_TWO.replace("11,4,", "11,4 2,"), 7),
+            (FILE_OF_TWO.replace("11,4,", "11 4,"), 6),
+            (FILE_OF_TWO.replace(",10 9 2", ""), 8),
             (format!("{FILE},"), 8),
             (format!("{FILE},c"), 8),
         ];
@@ -229,13 +243,16 @@ mod tests {
             ("aag 0 0 0 1 0,0".to_string(), 1),
             ("aag 65 65 0 1 0,0".to_string(), 1),
             ("aag 4096 1 4095 1 0".to_string(), 1),
-            (FILE.replace("3 1 1,", "3 2 1,"), 1),
+            (FILE.replace("3 1 1,", "3 0 1,"), 1),
+            (FILE.replace("3 1 1,", "3 3 1,"), 1),
             (FILE.replace(",2,", ",3,"), 2),
             (FILE.replace(",2,", ",65536,"), 2),
             (FILE.replace("4 2,", "6 2,"), 3),
             (FILE.replace("4 2,", "4 12,"), 3),
             (FILE.replace("4 2,", "4 2 2,"), 3),
             (FILE.replace(",11,", ",12,"), 6),
+            (FILE_OF_TWO.replace(",11,", ",12,"), 6),
+            (FILE_OF_TWO.replace("11,4,", "11,12,"), 7),
             (FILE.replace("10 9 2", "10 2 9"), 7),
             (FILE.replace("10 9 2", "10 10 2"), 7),
             (FILE.replace("10 9 2", "12 9 2"), 7),

@@ -6,10 +6,17 @@ use crate::netlist::{Gate, Header, Latch, Literal, Netlist, Reset, Variable};
 use crate::operand::{Atom, Operand, Run};
 use crate::refusal::{fill, Cause, Refusal};
 
+/// Document 02, No. 7: "Add a second output, checked. Build is told whether to add it."
+#[derive(Clone, Copy, Debug, PartialEq, Eq)]
+pub enum Outputs {
+    Accept,
+    AcceptAndChecked,
+}
+
 /// Checks 1, then the lines, then 10, 11, 12; returns the number of gates made.
-pub fn build(graph: &[u8], net: &mut [u16]) -> Result<usize, Refusal> {
+pub fn build(graph: &[u8], outputs: Outputs, net: &mut [u16]) -> Result<usize, Refusal> {
     let graph = Graph::parse(graph)?;
-    let netlist = circuit(&graph);
+    let netlist = circuit(&graph, outputs);
     if !netlist.header.is_lawful() {
         return Err(Cause::TooManyVariables.no_line());
     }
@@ -18,8 +25,9 @@ pub fn build(graph: &[u8], net: &mut [u16]) -> Result<usize, Refusal> {
 }
 
 /// "Gates = 7E + (E − non-start vertices with an incoming edge) + (E − vertices
-/// with an incoming edge) + max(T − 1, 0) + F."
-pub fn formula_of_gates(graph: &Graph) -> usize {
+/// with an incoming edge) + max(T − 1, 0) + F"; and with checked "2T − 1 are added when T is
+/// at least 1".
+pub fn formula_of_gates(graph: &Graph, outputs: Outputs) -> usize {
     let edges = graph.edges.len();
     let has_incoming = |vertex: &usize| graph.edges.iter().any(|edge| edge.to == *vertex);
     let reached = (0..graph.vertices).filter(has_incoming).count();
@@ -31,11 +39,16 @@ pub fn formula_of_gates(graph: &Graph) -> usize {
         .iter()
         .map(|edge| edge.antecedent.gates() + edge.consequent.gates())
         .sum();
+    let of_checked = match outputs {
+        Outputs::Accept => 0,
+        Outputs::AcceptAndChecked => (2 * terminal).saturating_sub(1),
+    };
     7 * edges
         + (edges - reached_non_start)
         + (edges - reached)
         + terminal.saturating_sub(1)
         + operators
+        + of_checked
 }
 
 /// A literal for each token.
@@ -46,7 +59,7 @@ struct Tokens {
 }
 
 /// The circuit, also where M passes the limit.
-fn circuit(graph: &Graph) -> Netlist {
+fn circuit(graph: &Graph, outputs: Outputs) -> Netlist {
     let mut maker = Maker::new(graph);
     let masked: Vec<Tokens> = (0..graph.edges.len())
         .map(|edge| maker.masked(edge))
@@ -59,8 +72,11 @@ fn circuit(graph: &Graph) -> Netlist {
         .iter()
         .map(|edge| maker.moved(edge, at[edge.from]))
         .collect();
-    let accept = maker.accept(&now);
-    maker.netlist(&now, accept)
+    let mut literals = vec![maker.accept(&now)];
+    if outputs == Outputs::AcceptAndChecked {
+        literals.push(maker.checked(&now));
+    }
+    maker.netlist(&now, literals)
 }
 
 struct Maker<'a> {
@@ -215,14 +231,29 @@ impl<'a> Maker<'a> {
 
     /// Part 4: "AND of NOT condemned-now over terminal edges in order; none: literal 1."
     fn accept(&mut self, now: &[Tokens]) -> Literal {
-        let graph = self.graph;
-        let edges = graph.edges.iter().zip(now);
-        let terminal = edges.filter(|(edge, _)| graph.is_terminal(edge));
-        self.and_all(terminal.map(|(_, tokens)| !tokens.condemned))
+        let terminal = self.of_terminal_edges(now);
+        self.and_all(terminal.into_iter().map(|tokens| !tokens.condemned))
+    }
+
+    /// Document 02, No. 7: "the OR over terminal edges of alive, which is happy-now or
+    /// condemned-now, each one gate, all these first, then joined in edge order, no terminal
+    /// edge giving 0".
+    fn checked(&mut self, now: &[Tokens]) -> Literal {
+        let mut alive = Vec::new();
+        for tokens in self.of_terminal_edges(now) {
+            alive.push(self.or(tokens.happy, tokens.condemned));
+        }
+        self.or_all(alive)
+    }
+
+    fn of_terminal_edges(&self, now: &[Tokens]) -> Vec<Tokens> {
+        let edges = self.graph.edges.iter().zip(now);
+        let terminal = edges.filter(|(edge, _)| self.graph.is_terminal(edge));
+        terminal.map(|(_, tokens)| *tokens).collect()
     }
 
     /// "These feed the latches": constants keep themselves, edges take their tokens.
-    fn netlist(self, now: &[Tokens], accept: Literal) -> Netlist {
+    fn netlist(self, now: &[Tokens], outputs: Vec<Literal>) -> Netlist {
         let constants = (0..self.graph.constant_bits).map(|place| Latch {
             next: self.atom(Atom::Constant(place)),
             reset: Reset::Uninitialised,
@@ -240,11 +271,11 @@ impl<'a> Maker<'a> {
                 variables: count(self.inputs() + self.latches() + self.gates.len()),
                 inputs: count(self.inputs()),
                 latches: count(self.latches()),
-                outputs: 1,
+                outputs: count(outputs.len()),
                 gates: count(self.gates.len()),
             },
             latches: constants.chain(tokens).collect(),
-            output: accept,
+            outputs,
             gates: self.gates,
         }
     }
@@ -260,10 +291,16 @@ mod tests {
     use crate::aiger::{read, write};
     use crate::testing::{graph_text, lines_text, numbered, G};
 
-    fn built(graph: &str) -> (usize, Vec<u16>) {
+    const BOTH: [Outputs; 2] = [Outputs::Accept, Outputs::AcceptAndChecked];
+
+    fn built_with(outputs: Outputs, graph: &str) -> (usize, Vec<u16>) {
         let mut net = vec![0; 8_200];
-        let gates = build(&graph_text(graph), &mut net).unwrap();
+        let gates = build(&graph_text(graph), outputs, &mut net).unwrap();
         (gates, net)
+    }
+
+    fn built(graph: &str) -> (usize, Vec<u16>) {
+        built_with(Outputs::Accept, graph)
     }
 
     fn file(net: &[u16]) -> Vec<u8> {
@@ -342,28 +379,30 @@ mod tests {
         assert_eq!((gates, &net[..due.len()]), (15, &due[..]));
     }
 
-    /// 128 terminal edges cost 127 gates, none cost none.
+    /// 128 terminal edges cost 127 gates, and with checked 255 more; none cost none.
     #[test]
     fn m_at_and_over_4095() {
         // Init and the edges' latches stand beside the gates.
-        let without_accept = 1 + 2 * 128 + 7 * 128 + 128 + 127;
-        for (mode, mark, accept) in [
-            ("", "t", 127),
-            ("", "-", 127),
-            ("M\tstrong\n", "t", 127),
-            ("M\tstrong\n", "-", 127),
-            ("M\tterminal\n", "t", 127),
-            ("M\tterminal\n", "-", 0),
+        let without_outputs = 1 + 2 * 128 + 7 * 128 + 128 + 127;
+        for (mode, mark, of_outputs) in [
+            ("", "t", [127, 127 + 255]),
+            ("", "-", [127, 127 + 255]),
+            ("M\tstrong\n", "t", [127, 127 + 255]),
+            ("M\tstrong\n", "-", [127, 127 + 255]),
+            ("M\tterminal\n", "t", [127, 127 + 255]),
+            ("M\tterminal\n", "-", [0, 0]),
         ] {
             let text = |operators| many_operators(mode, mark, operators);
             let bare = Graph::parse(&text(0)).unwrap();
-            let fixed = without_accept + accept;
-            assert_eq!(fixed, 257 + formula_of_gates(&bare));
-            let mut net = vec![0; 8_200];
-            let gates = build(&text(4_095 - fixed), &mut net).unwrap();
-            assert_eq!((net[0], gates), (4_095, 4_095 - 257));
-            let refusal = build(&text(4_096 - fixed), &mut net).unwrap_err();
-            assert_eq!(numbered(refusal), (11, 0));
+            for (outputs, of_outputs) in BOTH.into_iter().zip(of_outputs) {
+                let fixed = without_outputs + of_outputs;
+                assert_eq!(fixed, 257 + formula_of_gates(&bare, outputs));
+                let mut net = vec![0; 8_200];
+                let gates = build(&text(4_095 - fixed), outputs, &mut net).unwrap();
+                assert_eq!((net[0], gates), (4_095, 4_095 - 257));
+                let refusal = build(&text(4_096 - fixed), outputs, &mut net).unwrap_err();
+                assert_eq!(numbered(refusal), (11, 0));
+            }
         }
     }
 
@@ -393,22 +432,29 @@ mod tests {
             for mode in ["", "M terminal,", "M strong,"] {
                 let graph = format!("{mode}{graph}");
                 let parsed = Graph::parse(&graph_text(&graph)).unwrap();
-                let gates = built(&graph).0;
-                assert_eq!(gates, formula_of_gates(&parsed), "{graph}");
                 let operators =
                     |edge: &Edge| edge.antecedent.operators() + edge.consequent.operators();
                 let operators: usize = parsed.edges.iter().map(operators).sum();
-                assert!(gates <= 10 * parsed.edges.len() + 3 * operators);
+                for (outputs, of_edge) in BOTH.into_iter().zip([10, 12]) {
+                    let gates = built_with(outputs, &graph).0;
+                    assert_eq!(gates, formula_of_gates(&parsed, outputs), "{graph}");
+                    assert!(gates <= of_edge * parsed.edges.len() + 3 * operators);
+                }
             }
         }
     }
 
     #[test]
     fn refusals_leave_the_buffer() {
-        let mut net = [9; 23];
-        let refusal = build(&graph_text(G), &mut net).unwrap_err();
-        assert_eq!((numbered(refusal), net), ((12, 0), [9; 23]));
-        let refusal = build(&graph_text("S p,S p"), &mut net).unwrap_err();
-        assert_eq!((numbered(refusal), net), ((5, 2), [9; 23]));
+        for (outputs, short) in [(Outputs::Accept, 23), (Outputs::AcceptAndChecked, 26)] {
+            let mut net = vec![9; short];
+            for (graph, due) in [(G, (12, 0)), ("S p,S p", (5, 2))] {
+                let refusal = build(&graph_text(graph), outputs, &mut net).unwrap_err();
+                assert_eq!(numbered(refusal), due);
+                assert_eq!(net, vec![9; short]);
+            }
+            net.push(9);
+            assert!(build(&graph_text(G), outputs, &mut net).is_ok());
+        }
     }
 }

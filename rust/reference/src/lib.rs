@@ -1,4 +1,4 @@
-//! Document 01, as Nos. 2, 3 and 5 of document 02 change it, and Nos. 8, 9 and 12 of
+//! Document 01, as Nos. 2, 3, 5 and 7 of document 02 change it, and Nos. 8, 9 and 12 of
 //! document 02, once more in plain safe Rust, written from their sentences alone; and what
 //! the program `sheet` prints.
 //!
@@ -26,14 +26,14 @@ mod trace;
 
 pub use aiger::{read, write};
 pub use broken::{broken_check, first_broken, Part, Trace};
-pub use builder::{build, formula_of_gates};
+pub use builder::{build, formula_of_gates, Outputs};
 pub use formula::{parse as parse_formula, Formula, Operator, Parsed};
 pub use graph::{Edge, Graph, Mode};
 pub use netlist::{Gate, Header, Latch, Literal, Netlist, Reset, Variable};
 pub use operand::{Atom, Operand, Run, Term};
 pub use page::session_page;
-pub use paths::rejected_cycles;
+pub use paths::{judged_cycles, rejected_cycles, Judged};
 pub use rate::{per_million, Rate};
 pub use refusal::{Cause, Refusal};
 pub use sheet::sheet;
-pub use simulator::{run, start, step, Tally, Verdict};
+pub use simulator::{run, start, step, Tally, Verdict, Words};

@@ -4,6 +4,8 @@ use std::ops::Not;
 
 const MAX_VARIABLES: u32 = 4_095;
 const MAX_INPUTS: u32 = 64;
+/// Document 02, No. 7: "O may be 1 or 2."
+const MAX_OUTPUTS: u32 = 2;
 const MAX_UNINITIALISED: usize = 6;
 
 #[derive(Clone, Copy, Debug, PartialEq, Eq, PartialOrd, Ord)]
@@ -110,12 +112,12 @@ impl Header {
         ]
     }
 
-    /// "M = I+L+A"; "M ≤ 4,095; 1 ≤ I ≤ 64; O = 1".
+    /// "M = I+L+A"; "M ≤ 4,095; 1 ≤ I ≤ 64"; O is 1 or 2.
     pub fn is_lawful(&self) -> bool {
         self.variables == self.inputs + self.latches + self.gates
             && self.variables <= MAX_VARIABLES
             && (1..=MAX_INPUTS).contains(&self.inputs)
-            && self.outputs == 1
+            && (1..=MAX_OUTPUTS).contains(&self.outputs)
     }
 
     // "Variables 1 to I are inputs, then latches, then AND gates"; each index from 0.
@@ -138,28 +140,28 @@ impl Header {
     }
 }
 
-/// A netlist, grown latch by latch, then its output, then gate by gate. It is
-/// whole when it has as many as its header says.
+/// A netlist, grown latch by latch, then output by output, then gate by gate. It
+/// is whole when it has as many as its header says.
 #[derive(Clone, Debug, PartialEq, Eq)]
 pub struct Netlist {
     pub header: Header,
     pub latches: Vec<Latch>,
-    pub output: Literal,
+    pub outputs: Vec<Literal>,
     pub gates: Vec<Gate>,
 }
 
 impl Netlist {
-    /// A netlist still without latches and gates; `None` if the header breaks a limit.
+    /// A netlist still without latches, outputs and gates; `None` if the header breaks a limit.
     pub fn new(header: Header) -> Option<Netlist> {
         header.is_lawful().then_some(Netlist {
             header,
             latches: Vec::new(),
-            output: Literal::FALSE,
+            outputs: Vec::new(),
             gates: Vec::new(),
         })
     }
 
-    /// `None` if the latch breaks a limit; so do `set_output` and `add_gate`.
+    /// `None` if the latch breaks a limit; so do `add_output` and `add_gate`.
     pub fn add_latch(&mut self, next: u32, reset: u32) -> Option<()> {
         let own = self.header.latch(self.latches.len()).literal();
         let reset = Reset::parse(reset, own)?;
@@ -176,8 +178,8 @@ impl Netlist {
         Some(())
     }
 
-    pub fn set_output(&mut self, output: u32) -> Option<()> {
-        self.output = Literal(output);
+    pub fn add_output(&mut self, output: u32) -> Option<()> {
+        self.outputs.push(Literal(output));
         self.header.has(output).then_some(())
     }
 
@@ -208,21 +210,24 @@ impl Netlist {
         for _ in 0..netlist.header.latches {
             netlist.add_latch(next()?, next()?)?;
         }
-        netlist.set_output(next()?)?;
+        for _ in 0..netlist.header.outputs {
+            netlist.add_output(next()?)?;
+        }
         for _ in 0..netlist.header.gates {
             netlist.add_gate(next()?, next()?)?;
         }
         Some(netlist)
     }
 
-    /// "M I L O A, then next and reset for each latch, the output, then r0 r1 for each gate."
+    /// "M I L O A, then next and reset for each latch, the output, then r0 r1 for each gate";
+    /// the second output stands after the first.
     pub fn numbers(&self) -> Vec<u16> {
         let mut numbers = self.header.numbers().to_vec();
         for (index, latch) in self.latches.iter().enumerate() {
             let own = self.header.latch(index).literal();
             numbers.extend([latch.next.0, latch.reset.number(own)]);
         }
-        numbers.push(self.output.0);
+        numbers.extend(self.outputs.iter().map(|output| output.0));
         for gate in &self.gates {
             numbers.extend([gate.r0.0, gate.r1.0]);
         }
@@ -238,25 +243,42 @@ mod tests {
     /// One input, a latch of each reset, one gate.
     const SMALL: [u16; 14] = [5, 1, 3, 1, 1, 2, 0, 10, 1, 8, 8, 11, 9, 2];
 
-    fn with(place: usize, number: u16) -> bool {
-        let mut net = SMALL;
+    /// The same with a second output.
+    const TWO_OUTPUTS: [u16; 15] = [5, 1, 3, 2, 1, 2, 0, 10, 1, 8, 8, 11, 4, 9, 2];
+
+    fn is_netlist(net: &[u16], place: usize, number: u16) -> bool {
+        let mut net = net.to_vec();
         net[place] = number;
         Netlist::from_numbers(&net).is_some()
     }
 
     #[test]
     fn numbers_and_back() {
-        let netlist = Netlist::from_numbers(&SMALL).unwrap();
-        assert_eq!(netlist.numbers(), SMALL);
-        let longer: Vec<u16> = SMALL.into_iter().chain([7, 7]).collect();
-        assert_eq!(Netlist::from_numbers(&longer), Some(netlist));
-        for length in 0..SMALL.len() {
-            assert_eq!(Netlist::from_numbers(&SMALL[..length]), None);
+        for net in [&SMALL[..], &TWO_OUTPUTS] {
+            let netlist = Netlist::from_numbers(net).unwrap();
+            assert_eq!(netlist.numbers(), net);
+            let longer = [net, &[7, 7]].concat();
+            assert_eq!(Netlist::from_numbers(&longer), Some(netlist));
+            for length in 0..net.len() {
+                assert_eq!(Netlist::from_numbers(&net[..length]), None);
+            }
         }
     }
 
     #[test]
+    fn one_or_two_outputs() {
+        for (outputs, due) in [(0, false), (1, true), (2, true), (3, false), (4, false)] {
+            let net = [&[1, 1, 0, outputs, 0][..], &[3; 8]].concat();
+            assert_eq!(Netlist::from_numbers(&net).is_some(), due, "{outputs}");
+        }
+        let with = |place, number| is_netlist(&TWO_OUTPUTS, place, number);
+        assert!(with(11, 0) && !with(11, 12), "first output ≤ 2M+1");
+        assert!(with(12, 11) && !with(12, 12), "second output ≤ 2M+1");
+    }
+
+    #[test]
     fn limits() {
+        let with = |place, number| is_netlist(&SMALL, place, number);
         assert!(!with(0, 6) && !with(0, 4) && !with(3, 0) && !with(3, 2));
         assert!(with(5, 11) && !with(5, 12), "next ≤ 2M+1");
         assert!(with(11, 0) && !with(11, 12), "output ≤ 2M+1");
@@ -275,14 +297,19 @@ mod tests {
 
     #[test]
     fn most_variables() {
-        let net = |variables: u16| {
+        let net = |variables: u16, outputs: u16| {
             let gates = variables - 1;
-            let mut net = vec![variables, 1, 0, 1, gates, 0];
-            net.resize(6 + 2 * usize::from(gates), 0);
+            let mut net = vec![variables, 1, 0, outputs, gates];
+            net.resize(5 + usize::from(outputs) + 2 * usize::from(gates), 0);
             net
         };
-        assert!(Netlist::from_numbers(&net(4_095)).is_some());
-        assert_eq!(Netlist::from_numbers(&net(4_096)), None);
+        for (outputs, numbers) in [(1, 8_194), (2, 8_195)] {
+            let most = net(4_095, outputs);
+            assert_eq!(most.len(), numbers);
+            assert!(Netlist::from_numbers(&most).is_some());
+            assert_eq!(Netlist::from_numbers(&most[..numbers - 1]), None);
+            assert_eq!(Netlist::from_numbers(&net(4_096, outputs)), None);
+        }
     }
 
     #[test]

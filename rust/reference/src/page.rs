@@ -53,6 +53,7 @@ fn last_row(cycles: usize, rejected: usize) -> String {
     let tally = Tally {
         cycles: cycles as u32,
         rejected: rejected as u32,
+        ..Tally::default()
     };
     match per_million(tally) {
         Ok(rate) => format!("{rejected:>10}{:>7}{:>10}", rate.whole, rate.remainder),

@@ -1,5 +1,5 @@
-//! What demand 3 counts, read off the graph and the cycles: no latch, gate or
-//! tally is looked at.
+//! What demand 3 and No. 7 of document 02 count, read off the graph and the cycles: no
+//! latch, gate or tally is looked at.
 
 use crate::formula::Formula;
 use crate::graph::{Edge, Graph};
@@ -14,17 +14,45 @@ struct Reached {
     condemned: bool,
 }
 
+/// Of one cycle: the settings under which some path rejects it, and those under which some
+/// path checks it, that is "ending on a terminal edge", meets all antecedents. A setting has
+/// the bits of all lanes whose number ends with it.
+#[derive(Clone, Copy, Debug, Default, PartialEq, Eq)]
+pub struct Judged {
+    pub rejected: u64,
+    pub checked: u64,
+}
+
+impl Judged {
+    pub fn is_rejected(self) -> bool {
+        self.rejected != 0
+    }
+
+    /// "A cycle counts exactly when some setting and some path from the latest init, ending
+    /// on a terminal edge, meet all antecedents."
+    pub fn is_checked(self) -> bool {
+        self.checked != 0
+    }
+}
+
 /// For each cycle, whether some setting and some path reject it.
+pub fn rejected_cycles(graph: &Graph, cycles: &[&[u8]]) -> Vec<bool> {
+    let judged = judged_cycles(graph, cycles);
+    judged.into_iter().map(Judged::is_rejected).collect()
+}
+
+/// For each cycle, under which settings some path rejects it, and some path checks it.
 ///
 /// For each setting the paths are followed cycle by cycle. Paths that came to
 /// the same vertex, both condemned or both not, have the same continuations, so
 /// a set of `Reached` stands for them all. The tests hold this against every
 /// single path.
-pub fn rejected_cycles(graph: &Graph, cycles: &[&[u8]]) -> Vec<bool> {
-    let mut rejected = vec![false; cycles.len()];
+pub fn judged_cycles(graph: &Graph, cycles: &[&[u8]]) -> Vec<Judged> {
+    let mut judged = vec![Judged::default(); cycles.len()];
     for setting in 0..1usize << graph.constant_bits {
+        let lanes = lanes_of(setting, graph.constant_bits);
         let mut reached = BTreeSet::new();
-        for (cycle, rejected) in cycles.iter().zip(&mut rejected) {
+        for (cycle, judged) in cycles.iter().zip(&mut judged) {
             let moment = Moment { cycle, setting };
             if moment.is_init() {
                 reached = BTreeSet::from([Reached {
@@ -32,20 +60,33 @@ pub fn rejected_cycles(graph: &Graph, cycles: &[&[u8]]) -> Vec<bool> {
                     condemned: false,
                 }]);
             }
-            let (next, ends_badly) = follow(graph, &reached, moment);
+            let (next, ends) = follow(graph, &reached, moment);
             reached = next;
-            *rejected |= ends_badly;
+            judged.rejected |= if ends.condemned { lanes } else { 0 };
+            judged.checked |= if ends.terminal { lanes } else { 0 };
         }
     }
-    rejected
+    judged
 }
 
-/// Where the paths come to with this cycle's edge, and whether one of them
-/// "ends on a terminal edge, with all antecedents true and at least one
-/// consequent false".
-fn follow(graph: &Graph, reached: &BTreeSet<Reached>, moment: Moment) -> (BTreeSet<Reached>, bool) {
+/// The lanes that run a setting of so many constant bits.
+fn lanes_of(setting: usize, constant_bits: usize) -> u64 {
+    let lanes = (0..64).filter(|lane| lane % (1 << constant_bits) == setting);
+    lanes.fold(0, |word, lane| word | 1 << lane)
+}
+
+/// Whether some path ends on a terminal edge with all antecedents true, and whether one
+/// that does so also has "at least one consequent false".
+#[derive(Default)]
+struct Ends {
+    terminal: bool,
+    condemned: bool,
+}
+
+/// Where the paths come to with this cycle's edge, and how they end there.
+fn follow(graph: &Graph, reached: &BTreeSet<Reached>, moment: Moment) -> (BTreeSet<Reached>, Ends) {
     let mut next = BTreeSet::new();
-    let mut ends_badly = false;
+    let mut ends = Ends::default();
     for path in reached {
         for edge in graph.edges.iter().filter(|edge| edge.from == path.vertex) {
             if let Some(condemned) = moment.take(edge, path.condemned) {
@@ -53,11 +94,14 @@ fn follow(graph: &Graph, reached: &BTreeSet<Reached>, moment: Moment) -> (BTreeS
                     vertex: edge.to,
                     condemned,
                 });
-                ends_badly = ends_badly || condemned && graph.is_terminal(edge);
+                if graph.is_terminal(edge) {
+                    ends.terminal = true;
+                    ends.condemned |= condemned;
+                }
             }
         }
     }
-    (next, ends_badly)
+    (next, ends)
 }
 
 /// "Each edge's antecedent and consequent are judged on its own cycle's inputs
@@ -92,8 +136,8 @@ impl Moment<'_> {
 #[cfg(test)]
 mod tests {
     use super::*;
-    use crate::builder::build;
-    use crate::simulator::{run, start, Tally};
+    use crate::builder::{build, Outputs};
+    use crate::simulator::{run, start, step, Tally, Words};
     use crate::testing::{graph_text, G};
 
     /// A path is a list of edges.
@@ -115,37 +159,97 @@ mod tests {
         longer
     }
 
-    fn is_rejecting(graph: &Graph, path: &Path, cycles: &[&[u8]], setting: usize) -> bool {
-        let moments = || cycles.iter().map(|cycle| Moment { cycle, setting });
-        let mut edges = path.iter().zip(moments());
+    fn is_checking(graph: &Graph, path: &Path, cycles: &[&[u8]], setting: usize) -> bool {
+        let moments = cycles.iter().map(|cycle| Moment { cycle, setting });
+        let mut edges = path.iter().zip(moments);
         path.last().is_some_and(|edge| graph.is_terminal(edge))
             && edges.all(|(edge, moment)| moment.judge(&edge.antecedent))
-            && path
-                .iter()
-                .zip(moments())
-                .any(|(edge, moment)| !moment.judge(&edge.consequent))
     }
 
-    /// Demand 3 word by word, path by path.
-    fn rejected_by_enumeration(graph: &Graph, cycles: &[&[u8]]) -> Vec<bool> {
-        (0..cycles.len())
-            .map(|asked| {
-                let latest_init = (0..=asked).rev().find(|cycle| cycles[*cycle][0] == b'1');
-                latest_init.is_some_and(|init| {
-                    let span = &cycles[init..=asked];
-                    paths(graph, span.len()).iter().any(|path| {
-                        (0..1 << graph.constant_bits)
-                            .any(|setting| is_rejecting(graph, path, span, setting))
-                    })
-                })
-            })
-            .collect()
+    fn is_rejecting(graph: &Graph, path: &Path, cycles: &[&[u8]], setting: usize) -> bool {
+        let moments = cycles.iter().map(|cycle| Moment { cycle, setting });
+        let mut edges = path.iter().zip(moments);
+        is_checking(graph, path, cycles, setting)
+            && edges.any(|(edge, moment)| !moment.judge(&edge.consequent))
+    }
+
+    /// Demand 3 and No. 7 word by word, path by path; each lane by itself.
+    fn judged_by_enumeration(graph: &Graph, cycles: &[&[u8]]) -> Vec<Judged> {
+        let mut judged = Vec::new();
+        for asked in 0..cycles.len() {
+            let latest_init = (0..=asked).rev().find(|cycle| cycles[*cycle][0] == b'1');
+            let mut here = Judged::default();
+            if let Some(init) = latest_init {
+                let span = &cycles[init..=asked];
+                let paths = paths(graph, span.len());
+                for lane in 0..64 {
+                    let setting = lane & ((1 << graph.constant_bits) - 1);
+                    let some = |test: fn(&Graph, &Path, &[&[u8]], usize) -> bool| {
+                        u64::from(paths.iter().any(|path| test(graph, path, span, setting)))
+                    };
+                    here.rejected |= some(is_rejecting) << lane;
+                    here.checked |= some(is_checking) << lane;
+                }
+            }
+            judged.push(here);
+        }
+        judged
+    }
+
+    fn judged(graph: &str, trace: &str) -> Vec<Judged> {
+        let graph = Graph::parse(&graph_text(graph)).unwrap();
+        let cycles: Vec<&[u8]> = trace.split(',').map(str::as_bytes).collect();
+        let judged = judged_cycles(&graph, &cycles);
+        let rejected: Vec<bool> = judged.iter().map(|judged| judged.is_rejected()).collect();
+        assert_eq!(rejected_cycles(&graph, &cycles), rejected);
+        judged
     }
 
     fn rejected(graph: &str, trace: &str) -> Vec<bool> {
-        let graph = Graph::parse(&graph_text(graph)).unwrap();
-        let cycles: Vec<&[u8]> = trace.split(',').map(str::as_bytes).collect();
-        rejected_cycles(&graph, &cycles)
+        let judged = judged(graph, trace).into_iter();
+        judged.map(Judged::is_rejected).collect()
+    }
+
+    fn checked(graph: &str, trace: &str) -> Vec<bool> {
+        let judged = judged(graph, trace).into_iter();
+        judged.map(Judged::is_checked).collect()
+    }
+
+    #[test]
+    fn rules_at_stake() {
+        assert_eq!(checked(G, "110,111,010"), [true, true, false]);
+        assert_eq!(checked(G, "010"), [false], "no init");
+        assert_eq!(checked("S p,V a,E a a t p 1", "10"), [false], "antecedent");
+        let chain = "V a,V b,E a b - 1 1,E b b t 1 1";
+        assert_eq!(checked(chain, "1,0,1"), [false, true, false]);
+        let condemned = "S p,V a,E a a t 1 p";
+        assert_eq!(checked(condemned, "10,01"), [true, true]);
+        let unmarked = "V a,E a a - 1 1";
+        assert_eq!(checked(unmarked, "1,0"), [true, true]);
+        let terminal = format!("M terminal,{unmarked}");
+        assert_eq!(checked(&terminal, "1,0"), [false, false]);
+        let strong = format!("M strong,{chain}");
+        assert_eq!(checked(&strong, "1,0,1"), [true, true, true]);
+        // A first edge that cannot be taken: nothing is tested until the next init.
+        let late = "S p,V a,V b,E a b - p 1,E b b t 1 0";
+        assert_eq!(checked(late, "10,01,11,00"), [false, false, false, true]);
+    }
+
+    #[test]
+    fn lanes_of_settings() {
+        let odd = 0xAAAA_AAAA_AAAA_AAAA;
+        let constant = "S p,K k,V a,E a a t k p";
+        let due = |rejected, checked| vec![Judged { rejected, checked }];
+        assert_eq!(judged(constant, "11"), due(0, odd));
+        assert_eq!(judged(constant, "10"), due(odd, odd));
+        // k is 2: in every fourth lane.
+        let two = "K k 2,V a,E a a t k[1]&!k[0] 0";
+        assert_eq!(
+            judged(two, "1"),
+            due(0x4444_4444_4444_4444, 0x4444_4444_4444_4444)
+        );
+        let six = "K k 6,V a,E a a t k[5] k[0]";
+        assert_eq!(judged(six, "1"), due(0x5555_5555 << 32, 0xFFFF_FFFF << 32));
     }
 
     #[test]
@@ -257,7 +361,7 @@ mod tests {
     #[test]
     fn sets_of_reached_stand_for_all_paths() {
         let mut random = Random(0x1D0F_0A1A);
-        let (mut hit, mut missed) = (0, 0);
+        let (mut hit, mut missed) = ([0, 0], [0, 0]);
         for _ in 0..3_000 {
             let notation = small_graph(&mut random);
             let graph = Graph::parse(&graph_text(&notation)).unwrap();
@@ -268,43 +372,58 @@ mod tests {
                 })
                 .collect();
             let cycles: Vec<&[u8]> = trace.iter().map(|cycle| &cycle[..]).collect();
-            let due = rejected_by_enumeration(&graph, &cycles);
-            assert_eq!(
-                rejected_cycles(&graph, &cycles),
-                due,
-                "{notation} {trace:?}"
-            );
-            assert_eq!(
-                rejected_by_circuit(&notation, &cycles),
-                due,
-                "{notation} {trace:?}"
-            );
-            hit += due.iter().filter(|rejected| **rejected).count();
-            missed += due.iter().filter(|rejected| !**rejected).count();
+            let due = judged_by_enumeration(&graph, &cycles);
+            assert_eq!(judged_cycles(&graph, &cycles), due, "{notation} {trace:?}");
+            check_circuit(&notation, &cycles, &due);
+            for judged in due {
+                let counts = [judged.is_rejected(), judged.is_checked()];
+                for (place, counts) in counts.into_iter().enumerate() {
+                    hit[place] += usize::from(counts);
+                    missed[place] += usize::from(!counts);
+                }
+            }
         }
-        assert!(
-            hit > 500 && missed > 500,
-            "{hit} rejected, {missed} accepted"
-        );
+        let enough = |counts: [usize; 2]| counts.iter().all(|count| *count > 500);
+        assert!(enough(hit) && enough(missed), "{hit:?} {missed:?}");
     }
 
-    /// The same by this crate's builder and simulator.
-    fn rejected_by_circuit(notation: &str, cycles: &[&[u8]]) -> Vec<bool> {
-        let mut net = vec![0; 2_000];
-        build(&graph_text(notation), &mut net).unwrap();
-        let (mut latches, mut values) = (vec![0; 100], vec![0; 1_000]);
-        let (mut verdicts, mut tally) = (vec![0; cycles.len()], Tally::default());
-        start(&net, &mut latches, &mut tally).unwrap();
-        let trace = [cycles.join(&b'\n'), b"\n".to_vec()].concat();
-        run(
-            &net,
-            &trace,
-            &mut latches,
-            &mut values,
-            &mut verdicts,
-            &mut tally,
-        )
-        .unwrap();
-        verdicts.into_iter().map(|byte| byte == 1).collect()
+    /// The same by this crate's builder and simulator: words of steps, and a run.
+    fn check_circuit(notation: &str, cycles: &[&[u8]], due: &[Judged]) {
+        for outputs in [Outputs::Accept, Outputs::AcceptAndChecked] {
+            let mut net = vec![0; 2_000];
+            build(&graph_text(notation), outputs, &mut net).unwrap();
+            let (mut latches, mut values) = (vec![0; 100], vec![0; 1_000]);
+            let (mut verdicts, mut tally) = (vec![0; cycles.len()], Tally::default());
+            let has_checked = outputs == Outputs::AcceptAndChecked;
+            start(&net, &mut latches, &mut tally).unwrap();
+            for (cycle, judged) in cycles.iter().zip(due) {
+                let words = step(&net, cycle, &mut latches, &mut values, &mut tally);
+                let due = Words {
+                    accept: !judged.rejected,
+                    checked: if has_checked { judged.checked } else { 0 },
+                };
+                assert_eq!(words, Ok(due), "{notation} {cycles:?}");
+            }
+            let of_steps = tally;
+            start(&net, &mut latches, &mut tally).unwrap();
+            let trace = [cycles.join(&b'\n'), b"\n".to_vec()].concat();
+            let lent = (&mut latches, &mut values);
+            run(&net, &trace, lent.0, lent.1, &mut verdicts, &mut tally).unwrap();
+            let count = |test: fn(Judged) -> bool| {
+                due.iter().filter(|judged| test(**judged)).count() as u32
+            };
+            let due_tally = Tally {
+                cycles: cycles.len() as u32,
+                rejected: count(Judged::is_rejected),
+                checked: if has_checked {
+                    count(Judged::is_checked)
+                } else {
+                    0
+                },
+            };
+            assert_eq!((tally, of_steps), (due_tally, due_tally), "{notation}");
+            let due_verdicts: Vec<u8> = due.iter().map(|j| u8::from(j.is_rejected())).collect();
+            assert_eq!(verdicts, due_verdicts);
+        }
     }
 }

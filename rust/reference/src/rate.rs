@@ -46,7 +46,12 @@ mod tests {
     use crate::testing::numbered;
 
     fn rated(cycles: u32, rejected: u32) -> Result<(u32, u32), (u8, u32)> {
-        per_million(Tally { cycles, rejected })
+        let tally = Tally {
+            cycles,
+            rejected,
+            ..Tally::default()
+        };
+        per_million(tally)
             .map(|rate| (rate.whole, rate.remainder))
             .map_err(numbered)
     }

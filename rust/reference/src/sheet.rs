@@ -1,7 +1,7 @@
 //! What the program `sheet` prints: the session page of a run. Its input is the graph's
 //! name on the first line, then what the monitor program reads.
 
-use crate::builder::build;
+use crate::builder::{build, Outputs};
 use crate::graph::Graph;
 use crate::page::{is_graph_name, session_page};
 use crate::paths::rejected_cycles;
@@ -9,7 +9,7 @@ use crate::refusal::{check_size, Cause, Refusal};
 use crate::trace::cycles_of;
 
 const MAX_INPUT_BYTES: usize = 65_536;
-/// As many as any netlist has.
+/// As many as any netlist with one output has.
 const NUMBERS: usize = 8_194;
 /// More than the page of any input has.
 const PAGE_BYTES: usize = 300_000;
@@ -45,7 +45,8 @@ fn judged(input: &[u8]) -> Result<Vec<u8>, Refusal> {
         Some(at) => (lines[..at].concat(), lines[at + 1..].concat()),
         None => (input.to_vec(), Vec::new()),
     };
-    build(&graph, &mut [0; NUMBERS])?;
+    // "In the programs, netlists are as before."
+    build(&graph, Outputs::Accept, &mut [0; NUMBERS])?;
     let graph = Graph::parse(&graph)?;
     let cycles = cycles_of(1 + graph.signal_bits, &trace)?;
     let rejected = rejected_cycles(&graph, &cycles);

@@ -6,10 +6,20 @@ use crate::trace::{cycles_of, is_cycle, MAX_TRACE_BYTES};
 
 const ALL_LANES: u64 = u64::MAX;
 
+/// Document 02, No. 7: "The tally gains a third number, cycles with checked high in some
+/// lane"; "with O = 1 the third number does not move".
 #[derive(Clone, Copy, Debug, Default, PartialEq, Eq)]
 pub struct Tally {
     pub cycles: u32,
     pub rejected: u32,
+    pub checked: u32,
+}
+
+/// "Step answers both output words, the second 0 when O = 1."
+#[derive(Clone, Copy, Debug, PartialEq, Eq)]
+pub struct Words {
+    pub accept: u64,
+    pub checked: u64,
 }
 
 /// Of a run; a step has none.
@@ -45,14 +55,14 @@ fn lanes_with_bit(j: u32) -> u64 {
         .fold(0, |word, bit| word | bit)
 }
 
-/// Checks 16, 15, 12, 17; answers the output word.
+/// Checks 16, 15, 12, 17; answers the output words.
 pub fn step(
     net: &[u16],
     cycle: &[u8],
     latches: &mut [u64],
     values: &mut [u64],
     tally: &mut Tally,
-) -> Result<u64, Refusal> {
+) -> Result<Words, Refusal> {
     let netlist = lent_netlist(net)?;
     if !is_cycle(netlist.header.inputs as usize, cycle) {
         return Err(Cause::CycleWrong.at(1));
@@ -80,9 +90,9 @@ pub fn run(
     // Document 02, No. 2: "a run's verdict is `rejected` exactly when any cycle of that run was."
     let mut verdict = Verdict::Accepted;
     for (cycle, byte) in cycles.into_iter().zip(verdicts) {
-        let word = one_cycle(&netlist, cycle, latches, values, tally);
-        *byte = u8::from(is_rejected(word));
-        if is_rejected(word) {
+        let words = one_cycle(&netlist, cycle, latches, values, tally);
+        *byte = u8::from(is_rejected(words));
+        if is_rejected(words) {
             verdict = Verdict::Rejected;
         }
     }
@@ -98,29 +108,35 @@ fn check_words(netlist: &Netlist, latches: &[u64], values: &[u64]) -> Result<(),
     check_buffer(values, netlist.header.variables as usize + 1)
 }
 
-/// "Cycles or rejected + new cycles over 4,294,967,295."
+/// "Cycles or rejected + new cycles over 4,294,967,295"; and "17 guards" the third number
+/// "too, also with O = 1".
 fn check_tally(tally: &Tally, new_cycles: usize) -> Result<(), Refusal> {
     let room = |count: u32| (u32::MAX - count) as usize >= new_cycles;
-    match room(tally.cycles) && room(tally.rejected) {
+    match room(tally.cycles) && room(tally.rejected) && room(tally.checked) {
         true => Ok(()),
         false => Err(Cause::TallyFull.no_line()),
     }
 }
 
 /// "A cycle is rejected if any lane of it is 0."
-fn is_rejected(word: u64) -> bool {
-    word != ALL_LANES
+fn is_rejected(words: Words) -> bool {
+    words.accept != ALL_LANES
+}
+
+/// "Cycles with checked high in some lane."
+fn is_checked(words: Words) -> bool {
+    words.checked != 0
 }
 
 /// One cycle of an accepted call: fills the value words, moves the latches,
-/// brings the tally up to date, answers the output word.
+/// brings the tally up to date, answers the output words.
 fn one_cycle(
     netlist: &Netlist,
     cycle: &[u8],
     latches: &mut [u64],
     values: &mut [u64],
     tally: &mut Tally,
-) -> u64 {
+) -> Words {
     let inputs = cycle.len();
     values[0] = 0;
     for (value, byte) in values[1..].iter_mut().zip(cycle) {
@@ -137,10 +153,17 @@ fn one_cycle(
     for (latch_word, latch) in latches.iter_mut().zip(&netlist.latches) {
         *latch_word = word(values, latch.next);
     }
-    let output = word(values, netlist.output);
+    let words = Words {
+        accept: word(values, netlist.outputs[0]),
+        checked: match netlist.outputs.get(1) {
+            Some(second) => word(values, *second),
+            None => 0,
+        },
+    };
     tally.cycles += 1;
-    tally.rejected += u32::from(is_rejected(output));
-    output
+    tally.rejected += u32::from(is_rejected(words));
+    tally.checked += u32::from(is_checked(words));
+    words
 }
 
 fn word(values: &[u64], literal: Literal) -> u64 {
@@ -154,7 +177,7 @@ fn word(values: &[u64], literal: Literal) -> u64 {
 #[cfg(test)]
 mod tests {
     use super::*;
-    use crate::builder::build;
+    use crate::builder::{build, Outputs};
     use crate::testing::{graph_text, lines_text, numbered, G};
 
     /// A netlist with all that start, step and run are lent.
@@ -179,16 +202,27 @@ mod tests {
             bench
         }
 
-        fn of_graph(graph: &str) -> Bench {
+        fn with_outputs(outputs: Outputs, graph: &str) -> Bench {
             let mut net = vec![0; 8_200];
-            build(&graph_text(graph), &mut net).unwrap();
+            build(&graph_text(graph), outputs, &mut net).unwrap();
             Bench::of_net(&net)
         }
 
-        fn step(&mut self, cycle: &str) -> Result<u64, (u8, u32)> {
+        fn of_graph(graph: &str) -> Bench {
+            Bench::with_outputs(Outputs::Accept, graph)
+        }
+
+        fn words(&mut self, cycle: &str) -> Result<Words, (u8, u32)> {
             let (latches, values) = (&mut self.latches, &mut self.values);
             let cycle = cycle.as_bytes();
             step(&self.net, cycle, latches, values, &mut self.tally).map_err(numbered)
+        }
+
+        /// Of a netlist with one output.
+        fn step(&mut self, cycle: &str) -> Result<u64, (u8, u32)> {
+            let words = self.words(cycle)?;
+            assert_eq!((words.checked, self.tally.checked), (0, 0));
+            Ok(words.accept)
         }
 
         fn run_bytes(&mut self, trace: &[u8]) -> Result<Verdict, (u8, u32)> {
@@ -205,6 +239,14 @@ mod tests {
 
         fn run(&mut self, trace: &str) -> Result<Verdict, (u8, u32)> {
             self.run_bytes(&lines_text(trace))
+        }
+    }
+
+    fn tally(cycles: u32, rejected: u32, checked: u32) -> Tally {
+        Tally {
+            cycles,
+            rejected,
+            checked,
         }
     }
 
@@ -268,10 +310,7 @@ mod tests {
         assert_eq!(bench.verdicts[..2], [1, 9]);
         assert_eq!(bench.run("111"), Ok(Verdict::Accepted));
         assert_eq!(bench.verdicts[..2], [0, 9]);
-        let due = Tally {
-            cycles: 2,
-            rejected: 1,
-        };
+        let due = tally(2, 1, 0);
         assert_eq!(bench.tally, due);
         assert_eq!(bench.run_bytes(b""), Ok(Verdict::Accepted));
         assert_eq!((&bench.verdicts[..2], bench.tally), (&[0, 9][..], due));
@@ -349,13 +388,7 @@ mod tests {
         assert_eq!(bench.values[..5], [0, 0, 0, u64::MAX, 7]);
         assert_eq!(bench.step("1"), Ok(u64::MAX));
         assert_eq!(bench.values[..5], [0, u64::MAX, u64::MAX, 0, 7]);
-        assert_eq!(
-            bench.tally,
-            Tally {
-                cycles: 2,
-                rejected: 1
-            }
-        );
+        assert_eq!(bench.tally, tally(2, 1, 0));
     }
 
     #[test]
@@ -416,15 +449,62 @@ mod tests {
     #[test]
     fn full_tally() {
         let mut bench = Bench::of_graph(G);
-        let tally = |cycles, rejected| Tally { cycles, rejected };
-        bench.tally = tally(u32::MAX, 0);
+        bench.tally = tally(u32::MAX, 0, 0);
         assert_eq!(bench.step("110"), Err((17, 0)));
         assert_eq!(bench.run_bytes(b""), Ok(Verdict::Accepted));
-        bench.tally = tally(0, u32::MAX - 1);
+        bench.tally = tally(0, u32::MAX - 1, 0);
         assert_eq!(bench.run("111,111"), Err((17, 0)));
         assert_eq!(bench.run("110"), Ok(Verdict::Rejected));
-        assert_eq!(bench.tally, tally(1, u32::MAX));
+        assert_eq!(bench.tally, tally(1, u32::MAX, 0));
         assert_eq!(bench.step("111"), Err((17, 0)));
         assert_eq!(bench.step("11"), Err((15, 1)));
+    }
+
+    /// 000 before an init moves no number but the first; 110 with checked moves all three.
+    #[test]
+    fn full_third_number() {
+        for (outputs, due) in [(Outputs::Accept, 0), (Outputs::AcceptAndChecked, 1)] {
+            let mut bench = Bench::with_outputs(outputs, G);
+            bench.tally = tally(0, 0, u32::MAX);
+            assert_eq!(bench.words("000"), Err((17, 0)));
+            assert_eq!(bench.run("000"), Err((17, 0)));
+            assert_eq!(bench.run_bytes(b""), Ok(Verdict::Accepted));
+            assert_eq!(bench.tally, tally(0, 0, u32::MAX));
+            bench.tally = tally(0, 0, u32::MAX - 1);
+            assert_eq!(bench.run("000,000"), Err((17, 0)));
+            assert_eq!(bench.run("110"), Ok(Verdict::Rejected));
+            assert_eq!(bench.tally, tally(1, 1, u32::MAX - 1 + due));
+            start(&bench.net, &mut bench.latches, &mut bench.tally).unwrap();
+            assert_eq!(bench.tally, Tally::default());
+        }
+    }
+
+    /// Outputs that no graph has: the same input twice, its inverse, both constants.
+    #[test]
+    fn two_outputs_of_any_netlist() {
+        for (second, words) in [
+            (2, [0, u64::MAX]),
+            (3, [u64::MAX, 0]),
+            (0, [0, 0]),
+            (1, [u64::MAX, u64::MAX]),
+        ] {
+            let mut bench = Bench::of_net(&[1, 1, 0, 2, 0, 2, second]);
+            for (cycle, [accept, checked]) in [("0", [0, words[0]]), ("1", [u64::MAX, words[1]])] {
+                assert_eq!(bench.words(cycle), Ok(Words { accept, checked }));
+            }
+            let due = words.iter().filter(|word| **word != 0).count() as u32;
+            assert_eq!(bench.tally, tally(2, 1, due));
+            assert_eq!(bench.run("0,1,1"), Ok(Verdict::Rejected));
+            assert_eq!(bench.verdicts[..4], [1, 0, 0, 9]);
+        }
+        // Lanes count once: the latch is high in every second of them.
+        let mut bench = Bench::of_net(&[2, 1, 1, 2, 0, 4, 4, 1, 4]);
+        let odd = 0xAAAA_AAAA_AAAA_AAAA;
+        let due = Words {
+            accept: u64::MAX,
+            checked: odd,
+        };
+        assert_eq!(bench.words("0"), Ok(due));
+        assert_eq!(bench.tally, tally(1, 0, 1));
     }
 }

@@ -1,6 +1,6 @@
 //! The fixtures of the three programs, which are limit cases, hold what this implementation gives.
 
-use reference::{build, rejected_cycles, sheet, write, Graph};
+use reference::{build, rejected_cycles, sheet, write, Graph, Outputs};
 use std::path::Path;
 
 fn fixture(program: &str, name: &str) -> Vec<u8> {
@@ -13,7 +13,7 @@ fn file_of_the_longest_graph() {
     let graph = fixture("graph2aiger", "stdin");
     assert_eq!(graph.len(), 32_768);
     let (mut net, mut text) = ([0; 8_194], [0; 65_536]);
-    build(&graph, &mut net).unwrap();
+    build(&graph, Outputs::Accept, &mut net).unwrap();
     let length = write(&net, &mut text).unwrap();
     assert_eq!(text[..length], fixture("graph2aiger", "stdout"));
 }

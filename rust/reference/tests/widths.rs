@@ -5,7 +5,7 @@
 mod common;
 
 use common::{netlist, page};
-use reference::{formula_of_gates, read, sheet, write, Graph};
+use reference::{formula_of_gates, read, sheet, write, Graph, Outputs};
 
 /// Of the worked cases: an edge after it is line 8.
 const HEAD: &str = "S a 4,S b 4,S c 2,S p,K k 4,K j 2,V v";
@@ -31,7 +31,7 @@ fn refused(graph: &[u8]) -> (u8, u32) {
 fn sizes(graph: &[u8]) -> [usize; 4] {
     let (gates, net) = netlist(graph).expect("an accepted graph");
     let parsed = Graph::parse(graph).unwrap();
-    assert_eq!(gates, formula_of_gates(&parsed));
+    assert_eq!(gates, formula_of_gates(&parsed, Outputs::Accept));
     assert_eq!(gates, usize::from(net[4]));
     [net[0], net[1], net[2], net[4]].map(usize::from)
 }
@@ -295,7 +295,10 @@ fn sums_past_sixteen_bits() {
     let graph = text(&format!("S a 16,V v{}", edges(62)));
     assert!((32_000..=32_768).contains(&graph.len()));
     let parsed = Graph::parse(&graph).unwrap();
-    assert_eq!(formula_of_gates(&parsed), 62 * (2 * 3_263 + 10) - 2);
+    assert_eq!(
+        formula_of_gates(&parsed, Outputs::Accept),
+        62 * (2 * 3_263 + 10) - 2
+    );
     assert_eq!(refused(&graph), (11, 0));
     // So many more than 65,536 times some number that the rest alone would do.
     for times in 1..=6 {
@@ -330,7 +333,7 @@ fn with_variables(due: usize) -> Vec<u8> {
     }
     let graph = text(&graph);
     let parsed = Graph::parse(&graph).unwrap();
-    let variables = 17 + 2 * edges + formula_of_gates(&parsed);
+    let variables = 17 + 2 * edges + formula_of_gates(&parsed, Outputs::Accept);
     assert_eq!((left, variables), (0, due));
     graph
 }

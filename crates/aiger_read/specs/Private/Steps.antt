@@ -72,7 +72,7 @@ kindAt s (Gate first) k = gateAt s (literalOf (first .0 + k) false)
 
 -- no count wraps
 abbrev pub Counted : Head → Type 0
-Counted h = (h .inputs + h .latches + h .gates ≤ 4095) × (h .outputs ≤ 1) × (h .variables ≤ 4095)
+Counted h = (h .inputs + h .latches + h .gates ≤ 4095) × (h .outputs ≤ 2) × (h .variables ≤ 4095)
 
 -- from the inputs on
 unfoldable pub inputsOf : List ℕ → Head → Rows

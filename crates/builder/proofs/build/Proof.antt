@@ -15,8 +15,8 @@ enum-known-outcome c = search needs
 enum-told : tie.Need-enum-told
 enum-told c = search needs
 
-build-checked-requires : tie.Need-build-checked-requires
-build-checked-requires c κs =
+build-monitor-requires : tie.Need-build-monitor-requires
+build-monitor-requires c κs =
     let t = checked-text (c .before .before .before .before .before .before .args .graph .now) (c .before .before .before .read-graph .ensures .0) (c .before .enum-told .given .1) in
     record { graph = t .graph; read = t .accepts; held = t .arrays }
 
@@ -24,7 +24,7 @@ returns : tie.Need-returns
 unfolding buildOf buildAs
 returns c = (
   rw (refused-text (c .before .before .before .before .before .before .args .graph .now) (c .before .before .before .read-graph .ensures .0) (c .before .outcome .given .1)),
-  build-means _ _,
+  build-means _ _ _,
 )
 
 same-length : tie.Need-same-length
@@ -34,7 +34,7 @@ returns-2 : tie.Need-returns-2
 unfolding buildOf
 returns-2 c =
     let t = checked-text (c .before .before .before .before .before .before .before .before .before .args .graph .now) (c .before .before .before .before .before .before .read-graph .ensures .0) (c .before .before .before .before .enum-told .given .1) in
-    (rw (t .accepts) (c .before .before .build-checked .ensures (t .graph) (t .accepts)), build-means _ _)
+    (rw (t .accepts) (c .before .before .build-monitor .ensures (t .graph) (t .accepts)), build-means _ _ _)
 
 pub build-spec : {M : Type 1} → statement M
 build-spec =
@@ -43,7 +43,7 @@ build-spec =
     read-graph-requires
     enum-known-outcome
     enum-told
-    build-checked-requires
+    build-monitor-requires
     returns
     same-length
     returns-2)

@@ -1,7 +1,7 @@
 -- What the private functions promise that run the words of a formula, and that count gates. Assumes
 -- nothing.
 use mathlib.Core.Path.{_≡_}
-use mathlib.Core.Bool.{true, false, cond}
+use mathlib.Core.Bool.{Bool, true, false, cond}
 use mathlib.Core.List.{List, [], _∷_, _++_}
 use Prim.Native.Nat.{ℕ, zero, suc, _+_, _-_, _*_, _≤_, _/_, _%_, min}
 use lib.Dec.{eqb, ltb}
@@ -170,8 +170,9 @@ terminalAt arcs i = cond (getD arcs i noArc .terminal) 1 0
 abbrev pub reachedFrom : CheckedGraph → ℕ → ℕ
 reachedFrom g first = summed (isReached (g .arcs) (g .edges)) first (g .vertices - first)
 
--- the count of gates by the arrays
-unfoldable pub gatesBy : Bytes → CheckedGraph → ℕ
-gatesBy text g =
-    7 * g .edges + (g .edges - reachedFrom g 1) + (g .edges - reachedFrom g 0)
-    + (summed (terminalAt (g .arcs)) 0 (g .edges) - 1) + summed (arcGates text (listed text (g .names) (g .named)) (g .arcs)) 0 (g .edges)
+-- the count of gates by the arrays, with checked or without
+unfoldable pub gatesBy : Bool → Bytes → CheckedGraph → ℕ
+gatesBy checked text g =
+    let t = summed (terminalAt (g .arcs)) 0 (g .edges) in
+    7 * g .edges + (g .edges - reachedFrom g 1) + (g .edges - reachedFrom g 0) + (t - 1)
+    + summed (arcGates text (listed text (g .names) (g .named)) (g .arcs)) 0 (g .edges) + cond checked (2 * t - 1) 0

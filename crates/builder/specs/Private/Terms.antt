@@ -6,7 +6,7 @@ use lib.ListN.{length}
 use lib.Dec.{eqb}
 use Rattle.netlist.specs.Literals.{literalOf}
 use Rattle.circuit.specs.Gates.{lit, inv, Gate, gate, Piece}
-use Rattle.circuit.specs.Build.{init, orFrom, orAll}
+use Rattle.circuit.specs.Build.{Bits, init, orFrom, orAll}
 
 -- the masks of k latches; l is the variable of the first
 abbrev pub maskGates : ℕ → ℕ → List Gate
@@ -74,6 +74,41 @@ verticesOf n tos hs ds v (suc k) =
 -- accept is the inverse of the OR chain over the terminal edges, whose key is 1
 unfoldable pub acceptOf : ℕ → List ℕ → List ℕ → Piece
 acceptOf n marks cs = let p = orOn false n (lit init) (termsOf 1 marks cs) in record { gates = p .gates; out = inv (p .out) }
+
+-- alive of an edge, where its key is 1: one gate and its inverse; else none, and 0
+unfoldable pub aliveOf : Bool → ℕ → ℕ → ℕ → Piece
+aliveOf true n h d = record { gates = gate (inv d) (inv h) ∷ []; out = literalOf n true }
+aliveOf false n h d = record { gates = []; out = literalOf 0 false }
+
+-- alive of edges, one after another; hs and ds are their literals
+abbrev pub alivesOf : ℕ → List ℕ → List ℕ → List ℕ → Bits
+alivesOf n [] hs ds = record { gates = []; outs = [] }
+alivesOf n (k ∷ ks) [] ds = record { gates = []; outs = [] }
+alivesOf n (k ∷ ks) (h ∷ hs) [] = record { gates = []; outs = [] }
+alivesOf n (k ∷ ks) (h ∷ hs) (d ∷ ds) =
+    let p = aliveOf (eqb k 1) n h d in
+    let r = alivesOf (n + length (p .gates)) ks hs ds in
+    record { gates = p .gates ++ r .gates; outs = p .out ∷ r .outs }
+
+-- checked: all of these, and then the OR chain over the terminal edges
+unfoldable pub checkedOf : ℕ → List ℕ → List ℕ → List ℕ → Piece
+checkedOf n marks hs ds =
+    let a = alivesOf n marks hs ds in
+    let j = orOn false (n + length (a .gates)) (lit init) (termsOf 1 marks (a .outs)) in
+    record { gates = a .gates ++ j .gates; out = j .out }
+
+-- accept, and checked behind it where it is asked for; else its literal is 0
+pub record Ends : Type 0 where
+  pub gates : List Gate
+  pub accept : ℕ
+  pub second : ℕ
+
+unfoldable pub endsOf : Bool → ℕ → List ℕ → List ℕ → List ℕ → Ends
+endsOf true n marks hs ds =
+    let a = acceptOf n marks ds in
+    let c = checkedOf (n + length (a .gates)) marks hs ds in
+    record { gates = a .gates ++ c .gates; accept = a .out; second = c .out }
+endsOf false n marks hs ds = let a = acceptOf n marks ds in record { gates = a .gates; accept = a .out; second = literalOf 0 false }
 
 abbrev pub happyGates : ℕ → ℕ → ℕ → ℕ → List Gate
 happyGates m a c h = gate a h ∷ gate (lit m) c ∷ gate (lit m) (inv c) ∷ []

@@ -1,6 +1,9 @@
 -- `ludo_build` meets its contract: `build` answers what `buildOf` gives, and each case of the answer fixes code and
 -- result. Assumes nothing.
-use Rattle.ludopoplar.specs.Circuits.{buildAs, buildCall}
+use mathlib.Core.Path.{ap, _∙_}
+use Rattle.ludopoplar.specs.Codes.{codeOf}
+use Rattle.ludopoplar.specs.Circuits.{buildAs, buildWith, buildCall}
+use Rattle.ludopoplar.proofs.CheckedLaws.{build-refused, builds}
 use Rattle.ludopoplar.proofs.NumberLaws.{numbered}
 use Rattle.ludopoplar.proofs.ludo_build.Statement.{statement}
 use Rattle.ludopoplar.proofs.ludo_build.Tie as tie
@@ -21,24 +24,28 @@ code-requires : tie.Need-code-requires
 code-requires c κs = tt
 
 same-length : tie.Need-same-length
-same-length c = c .before .before .before .before .before .build .kept .1 .0
+same-length c = c .before .before .before .before .before .build .kept .1 .1 .0
 
 returns : tie.Need-returns
-unfolding buildCall buildAs
+unfolding buildCall buildWith buildAs
 returns c =
     let told = c .before in
-    let called = told .before .before .before .before in
-    (rw (← called .build .ensures .0, told .built .given .1), numbered)
+    let called = told .before .before .before .before in (
+      rw (← called .build .ensures .0, told .built .given .1),
+      ((λ _. builds _ _ _ _ _ _ (called .build .ensures .0) (told .built .given .1) (called .build .ensures .1)), numbered),
+    )
 
 same-length-2 : tie.Need-same-length-2
-same-length-2 c = c .before .before .before .before .before .before .before .build .kept .1 .0
+same-length-2 c = c .before .before .before .before .before .before .before .build .kept .1 .1 .0
 
 returns-2 : tie.Need-returns-2
-unfolding buildCall buildAs
+unfolding buildCall buildWith buildAs
 returns-2 c =
     let told = c .before .before .before in
-    let called = told .before .before .before .before in
-    (rw (← called .build .ensures .0, told .built2 .given .1, c .code .ensures, c .before .refusal .ensures), numbered)
+    let called = told .before .before .before .before in (
+      rw (← called .build .ensures .0, told .built2 .given .1, c .code .ensures, c .before .refusal .ensures),
+      (build-refused _ _ (c .code .ensures ∙ ap codeOf (c .before .refusal .ensures)), numbered),
+    )
 
 pub ludo-build-spec : {M : Type 1} → statement M
 ludo-build-spec =

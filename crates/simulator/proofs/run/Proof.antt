@@ -11,8 +11,8 @@ use Rattle.simulator.proofs.run.Tie as tie
 run-check-requires : tie.Need-run-check-requires
 run-check-requires c κs = search needs
 
-enum-known-checked : tie.Need-enum-known-checked
-enum-known-checked c = search needs
+enum-known-tested : tie.Need-enum-known-tested
+enum-known-tested c = search needs
 
 enum-told : tie.Need-enum-told
 enum-told c = search needs
@@ -23,7 +23,7 @@ run-cycles-requires c κs = sym (c .before .before .before .before .before .run-
 returns : tie.Need-returns
 returns c =
     let s = c .before .before .before .before .before .before .before .before .before in
-    let e = run-refused (s .args .net .now) (s .args .trace .now) (s .args .latches .now) (s .args .values .now) (s .args .verdicts .now) (s .args .tally) _ _ (c .before .before .before .run-check .ensures) (c .before .checked .given .1) in
+    let e = run-refused (s .args .net .now) (s .args .trace .now) (s .args .latches .now) (s .args .values .now) (s .args .verdicts .now) (s .args .tally) _ _ (c .before .before .before .run-check .ensures) (c .before .tested .given .1) in
     (e, (trace-of-run _ _ _ _ _ _, (run-is-steps _ _ _ _ _ _, verdict-means _ _ _ _ _ _ _ e)))
 
 same-length : tie.Need-same-length
@@ -45,7 +45,7 @@ run-spec =
     tie.close
     (tie.spec
     run-check-requires
-    enum-known-checked
+    enum-known-tested
     enum-told
     run-cycles-requires
     returns

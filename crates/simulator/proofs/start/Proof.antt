@@ -10,8 +10,8 @@ use Rattle.simulator.proofs.start.Tie as tie
 start-check-requires : tie.Need-start-check-requires
 start-check-requires c κs = search needs
 
-enum-known-checked : tie.Need-enum-known-checked
-enum-known-checked c = search needs
+enum-known-tested : tie.Need-enum-known-tested
+enum-known-tested c = search needs
 
 enum-told : tie.Need-enum-told
 enum-told c = search needs
@@ -28,7 +28,7 @@ starts-requires c κs =
 returns : tie.Need-returns
 returns c =
     let s = c .before .before .before .before .before .before in
-    (start-refused (s .args .net .now) (s .args .latches .now) (s .args .tally) _ _ (c .before .before .before .start-check .ensures) (c .before .checked .given .1), (start-means _ _ _, start-computed _ _ _))
+    (start-refused (s .args .net .now) (s .args .latches .now) (s .args .tally) _ _ (c .before .before .before .start-check .ensures) (c .before .tested .given .1), (start-means _ _ _, start-computed _ _ _))
 
 same-length : tie.Need-same-length
 same-length c = search needs
@@ -43,7 +43,7 @@ start-spec =
     tie.close
     (tie.spec
     start-check-requires
-    enum-known-checked
+    enum-known-tested
     enum-told
     header-requires
     starts-requires

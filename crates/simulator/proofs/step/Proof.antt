@@ -1,17 +1,16 @@
 -- `simulator::step` meets its contract. Assumes nothing.
 use borrow.Author.Needs.{needs}
-use Rattle.calls.proofs.TallyLaws.{rejected-by-lane}
 use Rattle.trace.proofs.TraceLaws.{cycle-length}
 use Rattle.calls.proofs.RefusalLaws.{step-passed}
-use Rattle.simulator.proofs.StepLaws.{step-refused, step-done, step-means}
+use Rattle.simulator.proofs.StepLaws.{step-refused, step-done, step-means, step-counts}
 use Rattle.simulator.proofs.step.Statement.{statement}
 use Rattle.simulator.proofs.step.Tie as tie
 
 step-check-requires : tie.Need-step-check-requires
 step-check-requires c κs = search needs
 
-enum-known-checked : tie.Need-enum-known-checked
-enum-known-checked c = search needs
+enum-known-tested : tie.Need-enum-known-tested
+enum-known-tested c = search needs
 
 enum-told : tie.Need-enum-told
 enum-told c = search needs
@@ -26,10 +25,9 @@ tallied-requires c κs = step-passed _ _ _ _ _ _ (c .before .before .before .bef
 
 returns : tie.Need-returns
 returns c =
-    let s = c .before .before .before .before .before .before .before .before in (
-      step-refused (s .args .net .now) (s .args .cycle .now) (s .args .latches .now) (s .args .values .now) (s .args .tally) _ _ (c .before .before .before .step-check .ensures) (c .before .checked .given .1),
-      (step-means _ _ _ _ _, rejected-by-lane),
-    )
+    let s = c .before .before .before .before .before .before .before .before in
+    let e = step-refused (s .args .net .now) (s .args .cycle .now) (s .args .latches .now) (s .args .values .now) (s .args .tally) _ _ (c .before .before .before .step-check .ensures) (c .before .tested .given .1) in
+    (e, (step-means _ _ _ _ _, step-counts _ _ _ _ _ _ e))
 
 same-length : tie.Need-same-length
 same-length c = search needs
@@ -40,18 +38,17 @@ same-length-2 c = search needs
 returns-2 : tie.Need-returns-2
 returns-2 c =
     let s = c .before .before .before .before .before .before .before .before .before .before .before .before .before .before .before in
-    let a = c .before .before .before .before .before .advance in (
-      step-done (s .args .net .now) (s .args .cycle .now) (s .args .latches .now) (s .args .values .now) (s .args .tally) _ (c .before .before .before .before .before .before .before .before .before .before .step-check .ensures) (c .before .before .before .before .before .before .before .before .enum-told .given .1)
-          (a .result) _ _ (c .tallied .result) (a .ensures .0) (a .ensures .1) (a .ensures .2) (c .tallied .ensures),
-      (step-means _ _ _ _ _, rejected-by-lane),
-    )
+    let a = c .before .before .before .before .before .advance in
+    let e = step-done (s .args .net .now) (s .args .cycle .now) (s .args .latches .now) (s .args .values .now) (s .args .tally) _ (c .before .before .before .before .before .before .before .before .before .before .step-check .ensures) (c .before .before .before .before .before .before .before .before .enum-told .given .1)
+    (a .result .accept) (a .result .checked) _ _ (c .tallied .result) (a .ensures .0) (a .ensures .1) (a .ensures .2) (a .ensures .3) (c .tallied .ensures) in
+    (e, (step-means _ _ _ _ _, step-counts _ _ _ _ _ _ e))
 
 pub step-spec : {M : Type 1} → statement M
 step-spec =
     tie.close
     (tie.spec
     step-check-requires
-    enum-known-checked
+    enum-known-tested
     enum-told
     advance-requires
     tallied-requires

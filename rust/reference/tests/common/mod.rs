@@ -1,11 +1,11 @@
 //! What the tests of document 02's requests share.
 
-use reference::{build, rejected_cycles, run, start, Graph, Tally, Verdict};
+use reference::{build, rejected_cycles, run, start, Graph, Outputs, Tally, Verdict};
 
 /// Gates and numbers of a graph's netlist, or number and line of the refusal.
 pub fn netlist(graph: &[u8]) -> Result<(usize, Vec<u16>), (u8, u32)> {
     let mut net = vec![0; 8_194];
-    match build(graph, &mut net) {
+    match build(graph, Outputs::Accept, &mut net) {
         Ok(gates) => Ok((gates, net)),
         Err(refusal) => Err((refusal.number, refusal.line)),
     }

@@ -41,12 +41,19 @@ add-result-3 c = search needs
 add-result-4 : tie.Need-add-result-4
 add-result-4 c = search needs
 
+checked-gates-requires : tie.Need-checked-gates-requires
+checked-gates-requires c κs = search needs
+
+add-result-5 : tie.Need-add-result-5
+add-result-5 c = search needs
+
 returns : tie.Need-returns
 unfolding gatesBy
 returns c =
-    let m = c .before .before in
+    let f = c .before in
+    let m = f .before .before in
     let e = m .before .before .before .before in
-    λ graph h w. rw (c .before .less3 .ensures, m .terminals .ensures .0, m .before .less2 .ensures, m .before .before .entered2 .ensures, m .before .before .before .less .ensures, e .entered .ensures, c .formulas-gates .ensures .0) (counted (e .before .before .args .text .now) graph h w)
+    λ graph h w. rw (c .checked-gates .ensures .0, f .before .less3 .ensures, m .terminals .ensures .0, m .before .less2 .ensures, m .before .before .entered2 .ensures, m .before .before .before .less .ensures, e .entered .ensures, f .formulas-gates .ensures .0) (counted (e .before .before .args .checked) (e .before .before .args .text .now) graph h w)
 
 pub gate-count-spec : {M : Type 1} → statement M
 gate-count-spec =
@@ -64,4 +71,6 @@ gate-count-spec =
     add-result-2
     add-result-3
     add-result-4
+    checked-gates-requires
+    add-result-5
     returns)

@@ -1,4 +1,5 @@
 -- `put_front` meets its contract. Assumes nothing.
+use mathlib.Core.Path.{_∙_}
 use lib.ListN.{take, length-set}
 use native.Mathlib.Omega.{arith}
 use borrow.Author.Needs.{needs}
@@ -16,6 +17,9 @@ mul-put-header c = search needs
 add-put-header-2 : tie.Need-add-put-header-2
 add-put-header-2 c = search needs
 
+output-count-requires : tie.Need-output-count-requires
+output-count-requires c κs = search needs
+
 put-header-requires : tie.Need-put-header-requires
 put-header-requires c κs = search needs
 
@@ -32,21 +36,50 @@ mul-net : tie.Need-mul-net
 mul-net c = search needs
 
 slice-write-net : tie.Need-slice-write-net
-slice-write-net c = search needs
+slice-write-net c =
+    let s = c .before .before .before .before .before .before .before .before .before .before .before .before .before .before .before .before .before in
+    omega (arith, layout.outputs-some (s .args .checked), s .pre .0, c .before .before .before .before .before .before .put-constants .ensures .1, c .before .before .put-latches .ensures .1)
+
+add-net : tie.Need-add-net
+add-net c = search needs
+
+mul-net-2 : tie.Need-mul-net-2
+mul-net-2 c = search needs
+
+slice-write-net-2 : tie.Need-slice-write-net-2
+slice-write-net-2 c =
+    let s = c .before .before .before .before .before .before .before .before .before .before .before .before .before .before .before .before .before .before in
+    rw length-set (omega (arith, layout.outputs-two (s .args .checked) (c .if1 .taken), s .pre .0, c .before .before .before .before .before .before .before .put-constants .ensures .1, c .before .before .before .put-latches .ensures .1))
 
 same-length : tie.Need-same-length
-same-length c = rw length-set (omega arith)
+same-length c = rw (length-set, length-set) (omega arith)
 
 returns : tie.Need-returns
 returns c =
-    let a = c .before .before .before .before .before .before .before .before .before .before .before .before .before .before .before .before .args in
-    let p = c .before .before .before .before .before .before .before .before .before .before .before .before .before .before .before .before .pre in
-    let h = c .before .before .before .before .before .before .before .before .before .before .before .put-header .ensures in
-    let k = c .before .before .before .before .before .before .put-constants .ensures in
-    let l = c .before .before .put-latches .ensures in
-    rw (l .0, k .0, c .before .before .before .before .before .before .before .after .ensures, h)
-    (layout.front-all (take (a .edges) (a .happy .now)) (take (a .edges) (a .condemned .now)) (a .signals) (a .constants) (a .edges) (a .gates) (a .output .0)
-    (length-take-le (a .edges) (a .happy .now) (p .2)) (length-take-le (a .edges) (a .condemned .now) (p .3)) (a .net .now) _ _ (k .1) (l .1))
+    let h = c .before .before .before .before .before .before .before .before .before .before .before .before in
+    let s = h .before .before .before .before .before .before in
+    let a = s .args in
+    let k = c .before .before .before .before .before .before .before .put-constants .ensures in
+    let l = c .before .before .before .put-latches .ensures in
+    rw (l .0, k .0, c .before .before .before .before .before .before .before .before .after .ensures, h .put-header .ensures, h .before .output-count .ensures .0)
+    (layout.both-stored (a .checked) _ _ (a .made .accept .0) (a .made .second .0) (c .if1 .taken)
+    ∙ layout.front-all (a .checked) (take (a .edges) (a .happy .now)) (take (a .edges) (a .condemned .now)) (a .signals) (a .constants) (a .edges) (a .gates) (a .made .accept .0) (a .made .second .0)
+    (length-take-le (a .edges) (a .happy .now) (s .pre .2)) (length-take-le (a .edges) (a .condemned .now) (s .pre .3)) (a .net .now) _ _ (k .1) (l .1))
+
+same-length-2 : tie.Need-same-length-2
+same-length-2 c = rw length-set (omega arith)
+
+returns-2 : tie.Need-returns-2
+returns-2 c =
+    let h = c .before .before .before .before .before .before .before .before .before .before .before .before in
+    let s = h .before .before .before .before .before .before in
+    let a = s .args in
+    let k = c .before .before .before .before .before .before .before .put-constants .ensures in
+    let l = c .before .before .before .put-latches .ensures in
+    rw (l .0, k .0, c .before .before .before .before .before .before .before .before .after .ensures, h .put-header .ensures, h .before .output-count .ensures .0)
+    (layout.one-stored (a .checked) _ _ (a .made .accept .0) (a .made .second .0) (c .if1 .left)
+    ∙ layout.front-all (a .checked) (take (a .edges) (a .happy .now)) (take (a .edges) (a .condemned .now)) (a .signals) (a .constants) (a .edges) (a .gates) (a .made .accept .0) (a .made .second .0)
+    (length-take-le (a .edges) (a .happy .now) (s .pre .2)) (length-take-le (a .edges) (a .condemned .now) (s .pre .3)) (a .net .now) _ _ (k .1) (l .1))
 
 pub put-front-spec : {M : Type 1} → statement M
 put-front-spec =
@@ -55,11 +88,17 @@ put-front-spec =
     add-put-header
     mul-put-header
     add-put-header-2
+    output-count-requires
     put-header-requires
     after-requires
     put-constants-requires
     put-latches-requires
     mul-net
     slice-write-net
+    add-net
+    mul-net-2
+    slice-write-net-2
     same-length
-    returns)
+    returns
+    same-length-2
+    returns-2)

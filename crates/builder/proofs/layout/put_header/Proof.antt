@@ -29,11 +29,14 @@ cast-net-3 c = search needs
 slice-write-net-3 : tie.Need-slice-write-net-3
 slice-write-net-3 c = rw (length-set, length-set) (omega arith)
 
+cast-net-4 : tie.Need-cast-net-4
+cast-net-4 c = search needs
+
 slice-write-net-4 : tie.Need-slice-write-net-4
 slice-write-net-4 c = rw (length-set, length-set, length-set) (omega arith)
 
-cast-net-4 : tie.Need-cast-net-4
-cast-net-4 c = search needs
+cast-net-5 : tie.Need-cast-net-5
+cast-net-5 c = search needs
 
 slice-write-net-5 : tie.Need-slice-write-net-5
 slice-write-net-5 c = search needs
@@ -56,8 +59,9 @@ put-header-spec =
     slice-write-net-2
     cast-net-3
     slice-write-net-3
-    slice-write-net-4
     cast-net-4
+    slice-write-net-4
+    cast-net-5
     slice-write-net-5
     same-length
     returns)

@@ -19,30 +19,36 @@ mul-after c = search needs
 after-requires-3 : tie.Need-after-requires-3
 after-requires-3 c κs = search needs
 
-mul-base : tie.Need-mul-base
-mul-base c = search needs
+output-count-requires : tie.Need-output-count-requires
+output-count-requires c κs = search needs
 
 add-base : tie.Need-add-base
 add-base c = search needs
 
-mul-base-2 : tie.Need-mul-base-2
-mul-base-2 c = search needs
+mul-base : tie.Need-mul-base
+mul-base c = search needs
 
 add-base-2 : tie.Need-add-base-2
 add-base-2 c = search needs
+
+mul-base-2 : tie.Need-mul-base-2
+mul-base-2 c = search needs
+
+add-base-3 : tie.Need-add-base-3
+add-base-3 c = search needs
 
 mul-put-gates : tie.Need-mul-put-gates
 mul-put-gates c = search needs
 
 sub-put-gates : tie.Need-sub-put-gates
 sub-put-gates c =
-    let s = c .before .before .before .before .before .before .before .before in
-    omega (arith, layout.numbers-length (s .args .text .now) (s .args .g) (s .pre .0), s .pre .1)
+    let s = c .before .before .before .before .before .before .before .before .before in
+    omega (arith, layout.numbers-length (s .args .checked) (s .args .text .now) (s .args .g) (s .pre .0), s .pre .1, c .before .before .output-count .ensures .0)
 
 part-put-gates-start : tie.Need-part-put-gates-start
 part-put-gates-start c =
-    let s = c .before .before .before .before .before .before .before .before in
-    omega (arith, layout.numbers-length (s .args .text .now) (s .args .g) (s .pre .0), s .pre .1)
+    let s = c .before .before .before .before .before .before .before .before .before in
+    omega (arith, layout.numbers-length (s .args .checked) (s .args .text .now) (s .args .g) (s .pre .0), s .pre .1, c .before .before .output-count .ensures .0)
 
 part-put-gates-end : tie.Need-part-put-gates-end
 part-put-gates-end c = search needs
@@ -55,12 +61,13 @@ slice-aggregate-put-gates-2 c = search needs
 
 put-gates-requires : tie.Need-put-gates-requires
 put-gates-requires c κs =
-    let k = c .before .before .before .before .before in
+    let o = c .before .before .before .before .before in
+    let k = o .before in
     let a = k .before .before .before .before .before .before .args in
     let p = k .before .before .before .before .before .before .pre in
     let e = k .before .before .after2 .ensures ∙ ap (λ (v : ℕ). v + a .g .constants) (k .before .before .before .after .ensures) in
     let f = k .after3 .ensures ∙ ap (λ (v : ℕ). v + 2 * a .g .edges) e in
-    rw (f, e) (p .0, p .0 .edges, p .0 .edges, omega (arith, p .2), layout.room (a .text .now) (a .g) (p .0) (a .net .now) (p .1) (p .2))
+    rw (f, e, o .output-count .ensures .0) (p .0, p .0 .edges, p .0 .edges, omega (arith, p .2), layout.room (a .checked) (a .text .now) (a .g) (p .0) (a .net .now) (p .1) (p .2))
 
 distance-requires : tie.Need-distance-requires
 distance-requires c κs = search needs
@@ -73,27 +80,31 @@ slice-aggregate-put-front-2 c = search needs
 
 put-front-requires : tie.Need-put-front-requires
 put-front-requires c κs =
-    let k = c .before .before .before .before .before .before .before .before .before .before .before .before .before .before in
+    let o = c .before .before .before .before .before .before .before .before .before .before .before .before .before .before in
+    let k = o .before in
     let a = k .before .before .before .before .before .before .args in
     let p = k .before .before .before .before .before .before .pre in
     let e = k .before .before .after2 .ensures ∙ ap (λ (v : ℕ). v + a .g .constants) (k .before .before .before .after .ensures) in
     let f = k .after3 .ensures ∙ ap (λ (v : ℕ). v + 2 * a .g .edges) e in
-    let m = rw (f, e) at (c .before .before .before .before .before .before .before .before .put-gates .ensures) in
-    (layout.still (a .text .now) (a .g) (p .0) (a .net .now) (p .1) m, omega (arith, layout.made (a .text .now) (a .g) f m (c .before .before .before .distance .ensures), p .2), omega (arith, p .0 .edges), omega (arith, p .0 .edges))
+    let m = rw (f, e, o .output-count .ensures .0) at (c .before .before .before .before .before .before .before .before .put-gates .ensures) in
+    rw (o .output-count .ensures .0)
+    (layout.still (a .checked) (a .text .now) (a .g) (p .0) (a .net .now) (p .1) m, omega (arith, layout.made (a .checked) (a .text .now) (a .g) f m (c .before .before .before .distance .ensures), p .2), omega (arith, p .0 .edges), omega (arith, p .0 .edges))
 
 same-length : tie.Need-same-length
 same-length c = search needs
 
 returns : tie.Need-returns
 returns c =
-    let k = c .before .before .before .before .before .before .before .before .before .before .before .before .before .before .before .before .before in
+    let o = c .before .before .before .before .before .before .before .before .before .before .before .before .before .before .before .before .before in
+    let k = o .before in
     let a = k .before .before .before .before .before .before .args in
     let p = k .before .before .before .before .before .before .pre in
     let e = k .before .before .after2 .ensures ∙ ap (λ (v : ℕ). v + a .g .constants) (k .before .before .before .after .ensures) in
     let f = k .after3 .ensures ∙ ap (λ (v : ℕ). v + 2 * a .g .edges) e in
-    let m = rw (f, e) at (c .before .before .before .before .before .before .before .before .before .before .before .put-gates .ensures) in
-    let n = layout.made (a .text .now) (a .g) f m (c .before .before .before .before .before .before .distance .ensures) in
-    (c .before .before .put-front .ensures ∙ layout.stored (a .text .now) (a .g) (p .0) (a .net .now) (p .1) m n, n)
+    let m = rw (f, e, o .output-count .ensures .0) at (c .before .before .before .before .before .before .before .before .before .before .before .put-gates .ensures) in
+    let n = layout.made (a .checked) (a .text .now) (a .g) f m (c .before .before .before .before .before .before .distance .ensures) in
+    let r = rw (o .output-count .ensures .0) at (c .before .before .put-front .ensures) in
+    (r ∙ layout.stored (a .checked) (a .text .now) (a .g) (p .0) (a .net .now) (p .1) m n, n)
 
 pub put-numbers-spec : {M : Type 1} → statement M
 put-numbers-spec =
@@ -103,10 +114,12 @@ put-numbers-spec =
     after-requires-2
     mul-after
     after-requires-3
-    mul-base
+    output-count-requires
     add-base
-    mul-base-2
+    mul-base
     add-base-2
+    mul-base-2
+    add-base-3
     mul-put-gates
     sub-put-gates
     part-put-gates-start

@@ -34,7 +34,7 @@ gather-requires c κs =
     let p = c .before .before .before .before .before .before .before .before .before .before .before .before .before .pre in
     let es = edgesIn (a .text .now) (a .g) in
     let n : length es ≡ a .g .edges = edge.edges-count (a .text .now) (a .g) (omega (arith, p .0 .arcs, p .0 .edges)) in
-    let t = builds.monitor-parts (a .g .signals) (a .g .vertices) es (a .l .0) (a .f .0) _ (c .before .before .before .before .before .before .fill-columns .ensures .0 ∙ edge.targets-in (a .text .now) (a .g)) (sym n) refl in
+    let t = builds.monitor-parts (a .checked) (a .g .signals) (a .g .vertices) es (a .l .0) (a .f .0) _ (c .before .before .before .before .before .before .fill-columns .ensures .0 ∙ edge.targets-in (a .text .now) (a .g)) (sym n) refl in
     (room-first t (p .4), p .3, p .0 .edges, omega (arith, p .0 .edges), omega (arith, p .0 .vertices), omega (arith, p .0 .vertices))
 
 slice-aggregate-judge : tie.Need-slice-aggregate-judge
@@ -54,7 +54,7 @@ judge-requires c κs =
     let m = c .before .before .before .before .before .before .before .before .before .before .gather .ensures in
     let es = edgesIn (a .text .now) (a .g) in
     let n : length es ≡ a .g .edges = edge.edges-count (a .text .now) (a .g) (omega (arith, p .0 .arcs, p .0 .edges)) in
-    let t = builds.monitor-parts (a .g .signals) (a .g .vertices) es (a .l .0) (a .f .0) _ (k .0 ∙ edge.targets-in (a .text .now) (a .g)) (sym n) (m .0 .count) in
+    let t = builds.monitor-parts (a .checked) (a .g .signals) (a .g .vertices) es (a .l .0) (a .f .0) _ (k .0 ∙ edge.targets-in (a .text .now) (a .g)) (sym n) (m .0 .count) in
     rw (m .1, m .2, k .1, edge.marks-in (a .text .now) (a .g)) (p .0, omega (arith, p .0 .vertices), omega (arith, p .0 .vertices), p .1, p .2, omega (arith, p .0 .edges), room-second t (p .4) (m .0))
 
 same-length : tie.Need-same-length
@@ -74,7 +74,7 @@ returns c =
     let m = c .before .before .before .before .before .before .before .before .before .before .before .before .before .before .before .before .before .gather .ensures in
     let es = edgesIn (a .text .now) (a .g) in
     let n : length es ≡ a .g .edges = edge.edges-count (a .text .now) (a .g) (omega (arith, p .0 .arcs, p .0 .edges)) in
-    builds.monitor-made (a .g .signals) (a .g .vertices) es (a .l .0) (a .f .0) _ (k .0 ∙ edge.targets-in (a .text .now) (a .g)) (sym n) (m .0 .count) (m .0) (rw (m .1, m .2, k .1, edge.marks-in (a .text .now) (a .g)) at (c .before .before .before .before .before .before .judge .ensures))
+    builds.monitor-made (a .checked) (a .g .signals) (a .g .vertices) es (a .l .0) (a .f .0) _ (k .0 ∙ edge.targets-in (a .text .now) (a .g)) (sym n) (m .0 .count) (m .0) (rw (m .1, m .2, k .1, edge.marks-in (a .text .now) (a .g)) at (c .before .before .before .before .before .before .judge .ensures))
 
 pub put-gates-spec : {M : Type 1} → statement M
 put-gates-spec =

@@ -1,5 +1,7 @@
 -- `session_page::lines::put_last` meets its contract. Assumes nothing.
+use mathlib.Core.Path.{_∙_}
 use Rattle.text.proofs.WriterLaws.{then}
+use Rattle.rate.proofs.RateLaws.{rate-unchecked}
 use Rattle.session_text.proofs.LastLaws.{last-is}
 use borrow.Author.Needs.{needs}
 use Rattle.session_page.proofs.lines.put_last.Statement.{statement}
@@ -32,7 +34,7 @@ returns c =
     let s = r .before .before in
     let t = s .args .tally in
     rw (last-is (t .cycles) (t .rejected) (s .pre .1) (s .pre .0))
-    (then (w1 .put-right .ensures) (then (rw (r .per-million .ensures .0) at (w2 .put-rate .ensures)) (w3 .put-rest .ensures)))
+    (then (w1 .put-right .ensures) (then (rw (r .per-million .ensures .0 ∙ rate-unchecked t) at (w2 .put-rate .ensures)) (w3 .put-rest .ensures)))
 
 pub put-last-spec : {M : Type 1} → statement M
 put-last-spec =

@@ -2,7 +2,7 @@
 use native.Mathlib.Omega.{arith}
 use borrow.Author.Needs.{needs}
 use Rattle.netlist.proofs.ValidLaws.{valid}
-use Rattle.simulator.proofs.CycleLaws.{output-is, latches-are}
+use Rattle.simulator.proofs.CycleLaws.{output-is, checked-is, latches-are}
 use Rattle.simulator.proofs.cycle.advance.Statement.{statement}
 use Rattle.simulator.proofs.cycle.advance.Tie as tie
 
@@ -18,23 +18,8 @@ latches-move-requires c κs =
     let e = c .before .before .header .ensures .0 in
     (s .pre .0, (e, (omega (arith, e, s .pre), omega (arith, s .pre, c .before .before .before .before .before .evaluate .kept .1 .1 .1 .0))))
 
-output-at-requires : tie.Need-output-at-requires
-output-at-requires c κs = search needs
-
-mul-t11 : tie.Need-mul-t11
-mul-t11 c = search needs
-
-shared-slice-read-t17 : tie.Need-shared-slice-read-t17
-shared-slice-read-t17 c =
-    let s = c .before .before .before .before .before .before .before .before .before .before .before .before .before .before .before .before .before in
-    let v = valid (s .args .net .now) (s .pre .0) in
-    omega (arith, v .long, v .single, c .before .output-at .ensures)
-
-word-of-requires : tie.Need-word-of-requires
-word-of-requires c κs =
-    let s = c .before .before .before .before .before .before .before .before .before .before .before .before .before .before .before .before .before .before in
-    let v = valid (s .args .net .now) (s .pre .0) in
-    rw (c .before .before .output-at .ensures) (omega (arith, s .pre, c .before .before .before .before .before .before .before .before .before .before .before .evaluate .kept .1 .1 .1 .0, v .outputs 0 (omega (arith, v .single))))
+outputs-requires : tie.Need-outputs-requires
+outputs-requires c κs = search needs
 
 same-length : tie.Need-same-length
 same-length c = search needs
@@ -44,14 +29,16 @@ same-length-2 c = search needs
 
 returns : tie.Need-returns
 returns c =
-    let s = c .before .before .before .before .before .before .before .before .before .before .before .before .before .before .before .before .before .before .before in
+    let s = c .before .before .before .before .before .before .before .before .before .before .before .before .before .before .before .before .before in
     let v = valid (s .args .net .now) (s .pre .0) in
-    let e = c .before .before .before .before .before .before .before .before .before .before .before .before .evaluate in
-    let m = c .before .before .before .before .before .before .latches-move in (
+    let e = c .before .before .before .before .before .before .before .before .before .before .evaluate in
+    let m = c .before .before .before .before .latches-move in (
       output-is (s .args .net .now) (s .args .cycle .now) (s .args .latches .now) (s .args .values .now) v (s .pre .1 .0) (s .pre .1 .1 .0)
-          (c .before .before .before .output-at .result) (c .word-of .result) (c .before .before .before .output-at .ensures) (e .last .1 .1 .1 .0) (e .ensures) (c .word-of .ensures),
+          (e .last .1 .1 .1 .0) (e .ensures) (c .outputs .result .accept) (c .outputs .ensures .0),
+      checked-is (s .args .net .now) (s .args .cycle .now) (s .args .latches .now) (s .args .values .now) v (s .pre .1 .0) (s .pre .1 .1 .0)
+          (e .last .1 .1 .1 .0) (e .ensures) (c .outputs .result .checked) (c .outputs .ensures .1),
       latches-are (s .args .net .now) (s .args .cycle .now) (s .args .latches .now) (s .args .values .now) v (s .pre .1 .0) (s .pre .1 .1 .0)
-          (c .before .before .before .before .before .before .before .before .before .header .result) (c .before .before .before .before .before .before .before .before .before .header .ensures .0) (e .last .1 .1 .1 .0) (e .ensures) (m .last .1 .1 .1 .0) (m .ensures),
+          (c .before .before .before .before .before .before .before .header .result) (c .before .before .before .before .before .before .before .header .ensures .0) (e .last .1 .1 .1 .0) (e .ensures) (m .last .1 .1 .1 .0) (m .ensures),
       e .ensures,
     )
 
@@ -62,10 +49,7 @@ advance-spec =
     evaluate-requires
     header-requires
     latches-move-requires
-    output-at-requires
-    mul-t11
-    shared-slice-read-t17
-    word-of-requires
+    outputs-requires
     same-length
     same-length-2
     returns)

@@ -62,7 +62,7 @@ add-k : tie.Need-add-k Inv-loop μ-loop
 add-k c =
     let b = bytes-enough _ _ _ _ _ _ _ _ (c .before .before .before .before .before .before .before .before .before .before .before .before .loop .inv .0) in
     let t = c .before .before .before .before .before .before .before .before .before .before .before .loop-test .taken in
-    omega arith
+    omega (arith, c .before .before .before .before .before .before .before .before .before .before .before .before .before .before .before .before .before .before .before .good)
 
 loop-less : tie.Need-loop-less Inv-loop μ-loop
 loop-less c = search needs
@@ -75,7 +75,7 @@ loop-again c =
     let a = c .before .before .before .before .before .before .before .advance in (
       i .0,
       rw e (going-next _ _ _ _ _ _ _ _ _ _ _ _ _ _ (i .1) (i .0) t (c .before .before .before .before .before .before .before .before .before .before .next-cycle .result .now) (c .before .before .before .before .before .before .before .before .before .before .next-cycle .ensures)
-          (a .result) _ _ (a .ensures .0) (a .ensures .1) (a .ensures .2) (search needs) (search needs) (c .before .before .verdict-byte .result) (c .before .before .verdict-byte .ensures) (c .before .tallied .result) (c .before .tallied .ensures)),
+          (a .result .accept) (a .result .checked) _ _ (a .ensures .0) (a .ensures .1) (a .ensures .2) (a .ensures .3) (search needs) (search needs) (c .before .before .verdict-byte .result) (c .before .before .verdict-byte .ensures) (c .before .tallied .result) (c .before .tallied .ensures)),
     )
 
 verdict-requires : tie.Need-verdict-requires Inv-loop μ-loop

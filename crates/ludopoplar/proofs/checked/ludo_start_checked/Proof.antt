@@ -1,0 +1,55 @@
+-- `ludo_start_checked` meets its contract: `start` answers what `startOf` gives, the tally too, and each case of the
+-- outcome fixes the code. Assumes nothing.
+use Rattle.ludopoplar.specs.Runs.{startCode}
+use Rattle.ludopoplar.specs.CheckedRuns.{startCheckedCall}
+use Rattle.ludopoplar.proofs.CheckedLaws.{starts}
+use Rattle.ludopoplar.proofs.checked.ludo_start_checked.Statement.{statement}
+use Rattle.ludopoplar.proofs.checked.ludo_start_checked.Tie as tie
+
+start-requires : tie.Need-start-requires
+start-requires c κs = tt
+
+enum-told : tie.Need-enum-told
+enum-told c = c .match .keys1
+
+enum-known-outcome : tie.Need-enum-known-outcome
+enum-known-outcome c = c .match .keys2
+
+refusal-requires : tie.Need-refusal-requires
+refusal-requires c κs = tt
+
+code-requires : tie.Need-code-requires
+code-requires c κs = tt
+
+same-length : tie.Need-same-length
+same-length c = c .before .before .before .before .start .kept .1 .0
+
+returns : tie.Need-returns
+unfolding startCheckedCall startCode
+returns c =
+    let called = c .before .before .before .before in
+    starts _ _ _ _ (rw (← called .start .ensures .0, c .enum-told .given .1)) (called .start .ensures .1 .1)
+
+same-length-2 : tie.Need-same-length-2
+same-length-2 c = c .before .before .before .before .before .before .before .start .kept .1 .0
+
+returns-2 : tie.Need-returns-2
+unfolding startCheckedCall startCode
+returns-2 c =
+    let told = c .before .before .before in
+    let called = told .before .before .before .before in
+    starts _ _ _ _ (rw (← called .start .ensures .0, told .outcome .given .1, c .code .ensures, c .before .refusal .ensures)) (called .start .ensures .1 .1)
+
+pub ludo-start-checked-spec : {M : Type 1} → statement M
+ludo-start-checked-spec =
+    tie.close
+    (tie.spec
+    start-requires
+    enum-told
+    enum-known-outcome
+    refusal-requires
+    code-requires
+    same-length
+    returns
+    same-length-2
+    returns-2)

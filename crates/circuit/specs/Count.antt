@@ -1,4 +1,4 @@
--- How many gates the monitor of a graph has: document 01's formula. Assumes nothing.
+-- How many gates the monitor of a graph has: the formula of document 01, and what document 02, No. 7, adds. Assumes nothing.
 use Prim.Native.Nat.{ℕ, zero, suc, _+_, _-_, _*_, min}
 use mathlib.Core.Bool.{Bool, cond}
 use mathlib.Core.List.{List, [], _∷_}

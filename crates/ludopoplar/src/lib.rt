@@ -6,8 +6,9 @@
 // definitions give; of a rate that its results are those of a division, the clause `divides` of `ludo_per_million`; of
 // a session that was measured twice what a code means and which line it is, the clauses `checks` of `ludo_broken_check`
 // and `first` of `ludo_broken_line`; of a session page what stands in its columns and that it tells graph name and
-// verdict bytes, the clauses `lays` and `tells` of `ludo_session_page`; of a call with checked that returned 0 what it
-// left behind its pointers, the clauses `demand` of `ludo_build_checked`, `clears` of `ludo_start_checked`, `steps` of
+// verdict bytes, the clauses `lays` and `tells` of `ludo_session_page`; of a build that returned 0 that its numbers do
+// what demand 3 asks, the clause `demand` of `ludo_build` and `ludo_build_checked`; of start, step and run with checked
+// what an accepted call leaves and what a refused one does, the clauses `starts` of `ludo_start_checked`, `steps` of
 // `ludo_step_checked` and `runs` of `ludo_run_checked`. `include/ludopoplar.h` declares these functions to C.
 mod checked;
 

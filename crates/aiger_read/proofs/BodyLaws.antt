@@ -3,14 +3,14 @@ use mathlib.Core.Path.{_≡_, refl, ap, _∙_}
 use mathlib.Core.Bool.{Bool, true, false, cond}
 use mathlib.Core.List.{List, [], _++_, append-nil}
 use Prim.Native.Nat.{ℕ, _+_}
-use borrow.Author.Tests.{eqb-true, eq-eqb}
+use borrow.Author.Tests.{eqb-true, eq-eqb, ne-eqb}
 use lib.Dec.{eqb}
 use lib.ListN.{length}
 use Rattle.netlist.specs.Literals.{literalOf}
 use Rattle.aiger_read.specs.declared.Fault.{Fault}
 use Rattle.aiger_read.specs.declared.Fault.the-variants.{WrongShape}
 use Rattle.aiger_read.specs.Lines.{Row, inputAt, latchAt, outputAt, gateAt}
-use Rattle.aiger_read.specs.Files.{rows, failed, behind, andThen, rowsOf, endOf, bodyOf}
+use Rattle.aiger_read.specs.Files.{Rows, rows, failed, behind, andThen, rowsOf, endOf, bodyOf}
 use Rattle.aiger_read.proofs.RunLaws.{Run, run-of, then-rows, failed-rows}
 
 abbrev pub inputRows : List ℕ → ℕ → ℕ → ℕ → Row
@@ -90,16 +90,18 @@ body-read s m i l o a p ns f q h =
           (s2 ∙ ap (λ (x : List ℕ). n2 ++ x) (s3 ∙ ap (λ (x : List ℕ). n3 ++ x) (s4 ∙ ap (λ (x : List ℕ). n4 ++ x) (e .1) ∙ append-nil n4)));
     }))))
 
--- and back: the lines, one kind after the other, to the end of the text
-pub body-made : (s : List ℕ) (m i l o a : ℕ) (n1 n2 n3 n4 : List ℕ) (p f1 p1 f2 p2 f3 p3 f4 p4 : ℕ)
+-- the gates from p on, and the end of the text
+abbrev pub gatesToEnd : List ℕ → ℕ → ℕ → ℕ → ℕ → ℕ → ℕ → Rows
+gatesToEnd s i l o a free p = andThen (rowsOf (gateRows s i l) a 0 (i + l + o + 2) free p) (λ f q. endOf s (i + l + o + a + 2) f q)
+
+-- and back: inputs, latches and outputs, one kind after the other, and then the gates
+pub body-made : (s : List ℕ) (m i l o a : ℕ) (n1 n2 n3 : List ℕ) (p f1 p1 f2 p2 f3 p3 : ℕ)
     → rowsOf (inputRows s) i 0 2 0 p ≡ rows n1 f1 p1
     → rowsOf (latchRows s m i) l 0 (i + 2) f1 p1 ≡ rows n2 f2 p2
     → rowsOf (outputRows s m) o 0 (i + l + 2) f2 p2 ≡ rows n3 f3 p3
-    → rowsOf (gateRows s i l) a 0 (i + l + o + 2) f3 p3 ≡ rows n4 f4 p4
-    → p4 ≡ length s → bodyOf s m i l o a p ≡ rows (n1 ++ (n2 ++ (n3 ++ n4))) f4 p4
-unfolding bodyOf andThen behind endOf
-body-made s m i l o a n1 n2 n3 n4 p f1 p1 f2 p2 f3 p3 f4 p4 e1 e2 e3 e4 h =
-    rw (e1, e2, e3, e4, eq-eqb p4 (length s) h, append-nil n4)
+    → bodyOf s m i l o a p ≡ behind n1 (behind n2 (behind n3 (gatesToEnd s i l o a f3 p3)))
+unfolding bodyOf andThen
+body-made s m i l o a n1 n2 n3 p f1 p1 f2 p2 f3 p3 e1 e2 e3 = rw (e1, e2, e3)
 
 -- or up to a fault among the outputs
 pub body-fault : (s : List ℕ) (m i l o a : ℕ) (n1 n2 : List ℕ) (p0 f1 q1 f2 q2 : ℕ) (e : Fault) (line : ℕ)
@@ -109,3 +111,17 @@ pub body-fault : (s : List ℕ) (m i l o a : ℕ) (n1 n2 : List ℕ) (p0 f1 q1 f
     → bodyOf s m i l o a p0 ≡ failed e line
 unfolding bodyOf andThen behind
 body-fault s m i l o a n1 n2 p0 f1 q1 f2 q2 e line e1 e2 e3 = rw (e1, e2, e3)
+
+-- lines to the end of the text, or with something behind them, or with a fault
+module _ (s : List ℕ) (x : Rows) (line : ℕ) where
+  pub to-end : (ns : List ℕ) (f q : ℕ) → x ≡ rows ns f q → q ≡ length s → andThen x (λ g r. endOf s line g r) ≡ rows ns f q
+  unfolding andThen behind endOf
+  to-end ns f q e h = rw (e, eq-eqb q (length s) h, append-nil ns)
+
+  pub past-end : (ns : List ℕ) (f q : ℕ) → x ≡ rows ns f q → (q ≡ length s → ⊥) → andThen x (λ g r. endOf s line g r) ≡ failed WrongShape line
+  unfolding andThen behind endOf
+  past-end ns f q e h = rw (e, ne-eqb q (length s) h)
+
+  pub no-end : (e : Fault) (k : ℕ) → x ≡ failed e k → andThen x (λ g r. endOf s line g r) ≡ failed e k
+  unfolding andThen
+  no-end e k h = rw h

@@ -1,5 +1,6 @@
 -- THE CLAIM: read takes exactly the files, reading what was written gives the same numbers, and a header out of
--- limits and a faulty output are told at their own lines. Assumes nothing.
+-- limits, a faulty output, a gate of the wrong shape and what stands behind the last line are told at their own
+-- lines. Assumes nothing.
 use mathlib.Core.Path.{_≡_, refl, sym, ap, _∙_}
 use mathlib.Core.Bool.{Bool, true, false, cond, not}
 use mathlib.Core.List.{List, _++_}
@@ -8,11 +9,12 @@ use native.Mathlib.Omega.{arith}
 use borrow.Author.Tests.{le-leb, lt-leb}
 use lib.Dec.{leb}
 use lib.ListN.{length, take, drop}
-use Rattle.netlist.specs.Layout.{maximum, outputCount, sizeOf}
+use Rattle.text.specs.Writer.{joined}
+use Rattle.netlist.specs.Layout.{maximum, inputCount, latchCount, outputCount, gateCount, gateVariable, sizeOf}
 use Rattle.netlist.specs.Literals.{literalOf}
 use Rattle.netlist.specs.Valid.{headerOk, isNetlist}
 use Rattle.aiger.specs.Rows.{headerRow, literalRow}
-use Rattle.aiger.specs.Format.{fileWith, fileOf}
+use Rattle.aiger.specs.Format.{gateLine, fileWith, fileOf}
 use Rattle.aiger.proofs.FormatLaws.{trimmed-size, trimmed-file, trimmed-length, trimmed-netlist}
 use Rattle.aiger.proofs.LengthLaws.{file-length}
 use Rattle.aiger_read.specs.declared.Fault.{Fault}
@@ -23,12 +25,12 @@ use Rattle.aiger_read.specs.declared.ReadOutcome.{ReadOutcome}
 use Rattle.aiger_read.specs.declared.ReadOutcome.the-variants.{Numbers, Refused}
 use Rattle.aiger_read.specs.Files.{Rows, rows, failed, fileRead}
 use Rattle.aiger_read.specs.Read.{ReadEnd, readEnd, maxText, readAs, readOf}
-use Rattle.aiger_read.specs.Claims.{IsFile, fileTo, lineOfOutput, StartsWithNumber, ReadMeans}
+use Rattle.aiger_read.specs.Claims.{IsFile, fileTo, lineOfOutput, lineOfGate, StartsWithNumber, StartsWithThree, ReadMeans}
 use Rattle.aiger_read.proofs.PlaceLaws.{at-split, at-whole, at-rest}
 use Rattle.aiger_read.proofs.FieldLaws.{Small}
-use Rattle.aiger_read.proofs.TextLaws.{output-above, output-wrong}
+use Rattle.aiger_read.proofs.TextLaws.{output-above, output-wrong, gate-wrong}
 use Rattle.aiger_read.proofs.FileLaws.{sound}
-use Rattle.aiger_read.proofs.CompleteLaws.{head-fault, file-fault, complete}
+use Rattle.aiger_read.proofs.CompleteLaws.{head-fault, file-fault, gate-fault, file-extra, complete}
 
 -- ---- a file is read as its netlist, and no limit is in its way
 
@@ -97,7 +99,7 @@ module _ (text buf : List ℕ) where
   unfolding readOf
   long h = rw (lt-leb (length text) maxText (omega (arith, h)))
 
--- ---- a fault of the header, and of an output
+-- ---- a fault of the header, of an output and of a gate, and what stands behind the last line
 
 faulty : (buf text : List ℕ) (fault : Fault) (line : ℕ) → length text ≤ 65536 → fileRead text ≡ failed fault line → readOf text buf ≡ readEnd (Refused (FaultyLine fault line)) buf
 unfolding readOf readAs
@@ -129,6 +131,20 @@ module _ (net buf : List ℕ) (explicit : ℕ → Bool) (k : ℕ) where
       (λ f p a. output-wrong s f p (literalOf (maximum net) true)
       (λ v r few b. none (record { lit = v; more = drop r s; small = few; is = at-rest a ∙ b .text }))))
 
+  gate-shape : (more : List ℕ) → isNetlist net ≡ true → k < gateCount net → (StartsWithThree more → ⊥) → length (fileTo net explicit (outputCount net) ++ (joined (gateLine net) k ++ more)) ≤ 65536
+      → readOf (fileTo net explicit (outputCount net) ++ (joined (gateLine net) k ++ more)) buf ≡ readEnd (Refused (FaultyLine WrongShape (lineOfGate net k))) buf
+  gate-shape more h l none small =
+      let s = fileTo net explicit (outputCount net) ++ (joined (gateLine net) k ++ more) in
+      faulty buf s WrongShape (lineOfGate net k) small
+      (gate-fault s net explicit h WrongShape k more refl l
+      (λ f p a. gate-wrong s f p (literalOf (gateVariable net k) false)
+      (λ v r0 r1 r few b. none (record { lit = v; r0 = r0; r1 = r1; more = drop r s; small = few; is = at-rest a ∙ b .text }))))
+
+extra : (net buf : List ℕ) (explicit : ℕ → Bool) (more : List ℕ) → isNetlist net ≡ true → 0 < length more → length (fileWith net explicit ++ more) ≤ 65536
+    → readOf (fileWith net explicit ++ more) buf ≡ readEnd (Refused (FaultyLine WrongShape (inputCount net + latchCount net + outputCount net + gateCount net + 2))) buf
+extra net buf explicit more h some small =
+    faulty buf (fileWith net explicit ++ more) WrongShape _ small (file-extra (fileWith net explicit ++ more) net explicit h more refl some)
+
 -- ---- what was written
 
 trip : (net : List ℕ) → isNetlist net ≡ true → IsFile (fileOf net) (take (sizeOf net) net)
@@ -154,4 +170,4 @@ same net other h g e =
     cc
 
 pub read-means : ReadMeans
-read-means = record { takes = takes; short = short; only = only; long = long; other = other; back = back; same = same; header = header; above = above; shape = shape }
+read-means = record { takes = takes; short = short; only = only; long = long; other = other; back = back; same = same; header = header; above = above; shape = shape; gate-shape = gate-shape; extra = extra }

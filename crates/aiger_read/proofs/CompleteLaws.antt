@@ -1,8 +1,8 @@
--- Every file of a netlist is taken, and gives the netlist's numbers; where its header is out of limits, or an output
--- has a fault, it is refused at that line. Assumes nothing.
+-- Every file of a netlist is taken, and gives the netlist's numbers; where its header is out of limits, an output
+-- or a gate has a fault, or something stands behind it, it is refused at that line. Assumes nothing.
 use mathlib.Core.Path.{_≡_, refl, sym, ap, ap₂, _∙_}
 use mathlib.Core.Bool.{Bool, true, false, cond, not, _&&_, _||_}
-use mathlib.Core.List.{List, [], _∷_, _++_}
+use mathlib.Core.List.{List, [], _∷_, _++_, append-assoc}
 use mathlib.Core.Logic.{_⊎_, inl, inr}
 use Prim.Native.Nat.{ℕ, suc, _+_, _*_, _≤_, _<_}
 use native.Mathlib.Nat.{zero-add, add-zero}
@@ -19,18 +19,18 @@ use Rattle.netlist.proofs.ValidLaws.{Valid, valid, free-below}
 use Rattle.aiger.specs.Rows.{line, headerRow}
 use Rattle.aiger.specs.Format.{inputLine, latchLine, outputLine, gateLine, fileWith}
 use Rattle.aiger_read.specs.declared.Fault.{Fault}
-use Rattle.aiger_read.specs.declared.Fault.the-variants.{OutOfLimits}
+use Rattle.aiger_read.specs.declared.Fault.the-variants.{WrongShape, OutOfLimits}
 use Rattle.aiger_read.specs.Fields.{fields}
 use Rattle.aiger_read.specs.Lines.{Row, row, fault}
-use Rattle.aiger_read.specs.Files.{rows, failed, behind, rowsOf, hasTag, headed, fileRead}
-use Rattle.aiger_read.specs.Claims.{IsFile, fileTo, lineOfOutput}
+use Rattle.aiger_read.specs.Files.{Rows, rows, failed, behind, rowsOf, bodyOf, hasTag, headed, fileRead}
+use Rattle.aiger_read.specs.Claims.{IsFile, fileTo, lineOfOutput, lineOfGate}
 use Rattle.aiger_read.proofs.LimitLaws.{header-sum}
 use Rattle.aiger_read.proofs.PlaceLaws.{At, at-split, at-whole, at-parts}
 use Rattle.aiger_read.proofs.FieldLaws.{Small, stand-fields}
 use Rattle.aiger_read.proofs.TextLaws.{input-complete, output-complete, latch-complete, gate-complete}
 use Rattle.aiger_read.proofs.RunLaws.{of-run, fault-run}
 use Rattle.aiger_read.proofs.LayoutLaws.{pairAt, oneAt, made}
-use Rattle.aiger_read.proofs.BodyLaws.{inputRows, latchRows, outputRows, gateRows, body-made, body-fault}
+use Rattle.aiger_read.proofs.BodyLaws.{inputRows, latchRows, outputRows, gateRows, gatesToEnd, body-made, to-end, past-end, no-end, body-fault}
 use Rattle.aiger_read.proofs.SoundLaws.{counted}
 use Rattle.aiger_read.proofs.FileLaws.{tag, joined-none}
 
@@ -125,14 +125,17 @@ module _ (s net : List ℕ) (explicit : ℕ → Bool) (is : isNetlist net ≡ tr
   outputs-run f p q line a =
       complete-run s (outputRows s (maximum net)) (outputLine net) (λ k. oneAt net (5 + 2 * latchCount net + k)) (λ _. f) (outputCount net) line p q a (output-run f)
 
+  gate-run : (f k x y : ℕ) → k < gateCount net → At s x (gateLine net k) y
+      → gateRows s (inputCount net) (latchCount net) k f x ≡ row (pairAt net (5 + 2 * latchCount net + outputCount net + 2 * k)) f y
+  unfolding gateLine
+  gate-run f k x y h b =
+      gate-complete s f x y (literalOf (gateVariable net k) false) (getD net (operandsAt net k) 0) (getD net (operandsAt net k + 1) 0)
+      (own-small (gateVariable net k) (omega (arith, v .sum, v .small))) (v .below k h) (v .order k h) b
+
   gates-run : (f p q line : ℕ) → At s p (joined (gateLine net) (gateCount net)) q
       → rowsOf (gateRows s (inputCount net) (latchCount net)) (gateCount net) 0 line f p ≡ rows (joined (λ k. pairAt net (5 + 2 * latchCount net + outputCount net + 2 * k)) (gateCount net)) f q
-  unfolding gateLine
   gates-run f p q line a =
-      complete-run s (gateRows s (inputCount net) (latchCount net)) (gateLine net) (λ k. pairAt net (5 + 2 * latchCount net + outputCount net + 2 * k)) (λ _. f) (gateCount net) line p q a
-      (λ k x y h b.
-      gate-complete s f x y (literalOf (gateVariable net k) false) (getD net (operandsAt net k) 0) (getD net (operandsAt net k + 1) 0)
-      (own-small (gateVariable net k) (omega (arith, v .sum, v .small))) (v .below k h) (v .order k h) b)
+      complete-run s (gateRows s (inputCount net) (latchCount net)) (gateLine net) (λ k. pairAt net (5 + 2 * latchCount net + outputCount net + 2 * k)) (λ _. f) (gateCount net) line p q a (gate-run f)
 
   -- ---- the header
   ok : headerOk (maximum net) (inputCount net) (latchCount net) (outputCount net) (gateCount net) ≡ true
@@ -142,30 +145,26 @@ module _ (s net : List ℕ) (explicit : ℕ → Bool) (is : isNetlist net ≡ tr
   unfolding Small
   small = (omega (arith, v .small), (omega (arith, v .few), (omega (arith, v .sum, v .small), (omega (arith, v .most), (omega (arith, v .sum, v .small), tt)))))
 
-  -- ---- the whole
-  file-read : s ≡ fileWith net explicit → length net ≡ sizeOf net → (free q : ℕ) × (fileRead s ≡ rows net free q)
-  unfolding headed behind fileWith
-  file-read e size =
-      let h = headerRow (maximum net) (inputCount net) (latchCount net) (outputCount net) (gateCount net) in
-      let t1 = joined inputLine (inputCount net) in
-      let t2 = joined (latchLine net explicit) (latchCount net) in
-      let t3 = joined (outputLine net) (outputCount net) in
-      let t4 = joined (gateLine net) (gateCount net) in
-      let a0 = at-split h (t1 ++ (t2 ++ (t3 ++ t4))) (at-whole (h ++ (t1 ++ (t2 ++ (t3 ++ t4)))) e) in
-      let a1 = at-split t1 (t2 ++ (t3 ++ t4)) (a0 .1) in
-      let a2 = at-split t2 (t3 ++ t4) (a1 .1) in
-      let a3 = at-split t3 t4 (a2 .1) in
-      let f = freeCount net (latchCount net) in
-      let b =
-      body-made s (maximum net) (inputCount net) (latchCount net) (outputCount net) (gateCount net) [] _ _ _ (0 + length h) 0 (0 + length h + length t1) f
-      (0 + length h + length t1 + length t2) f (0 + length h + length t1 + length t2 + length t3) f (length s) (inputs-run _ _ _ (a1 .0)) (latches-run _ _ _ (a2 .0)) (outputs-run f _ _ _ (a3 .0)) (gates-run f _ _ _ (a3 .1)) refl in
-      (f, length s, rw (head-read s (maximum net) (inputCount net) (latchCount net) (outputCount net) (gateCount net) (0 + length h) (a0 .0) small, ok, b) (ap (λ (x : List ℕ). rows x f (length s)) (sym (made net size))))
+  body : (q : ℕ) → At s 0 (headerRow (maximum net) (inputCount net) (latchCount net) (outputCount net) (gateCount net)) q
+      → fileRead s ≡ behind (maximum net ∷ inputCount net ∷ latchCount net ∷ outputCount net ∷ gateCount net ∷ []) (bodyOf s (maximum net) (inputCount net) (latchCount net) (outputCount net) (gateCount net) q)
+  unfolding headed
+  body q a = head-read s (maximum net) (inputCount net) (latchCount net) (outputCount net) (gateCount net) q a small ∙ rw ok
 
-  -- ---- the line of output k has a fault
-  pub file-fault : (e : Fault) (k : ℕ) (more : List ℕ) → s ≡ fileTo net explicit k ++ more → k < outputCount net
-      → ((f p : ℕ) → At s p more (length s) → outputRows s (maximum net) k f p ≡ fault e) → fileRead s ≡ failed e (lineOfOutput net k)
-  unfolding headed behind fileTo
-  file-fault e k more is-text l bad =
+  -- ---- a text that is a file up to the line of output k
+  record Parts (k : ℕ) (more : List ℕ) : Type 0 where
+    p0 : ℕ
+    p1 : ℕ
+    p2 : ℕ
+    p3 : ℕ
+    header : At s 0 (headerRow (maximum net) (inputCount net) (latchCount net) (outputCount net) (gateCount net)) p0
+    inputs : At s p0 (joined inputLine (inputCount net)) p1
+    latches : At s p1 (joined (latchLine net explicit) (latchCount net)) p2
+    outputs : At s p2 (joined (outputLine net) k) p3
+    rest : At s p3 more (length s)
+
+  parts : (k : ℕ) (more : List ℕ) → s ≡ fileTo net explicit k ++ more → Parts k more
+  unfolding fileTo
+  parts k more is-text =
       let h = headerRow (maximum net) (inputCount net) (latchCount net) (outputCount net) (gateCount net) in
       let t1 = joined inputLine (inputCount net) in
       let t2 = joined (latchLine net explicit) (latchCount net) in
@@ -174,13 +173,81 @@ module _ (s net : List ℕ) (explicit : ℕ → Bool) (is : isNetlist net ≡ tr
       let a0 = at-split h (t1 ++ (t2 ++ t3)) (a .0) in
       let a1 = at-split t1 (t2 ++ t3) (a0 .1) in
       let a2 = at-split t2 t3 (a1 .1) in
-      let f = freeCount net (latchCount net) in
+      record {
+        p0 = 0 + length h;
+        p1 = 0 + length h + length t1;
+        p2 = 0 + length h + length t1 + length t2;
+        p3 = 0 + length (h ++ (t1 ++ (t2 ++ t3)));
+        header = a0 .0;
+        inputs = a1 .0;
+        latches = a2 .0;
+        outputs = a2 .1;
+        rest = a .1;
+      }
+
+  abbrev frees : ℕ
+  frees = freeCount net (latchCount net)
+
+  -- the line of output k has a fault
+  pub file-fault : (e : Fault) (k : ℕ) (more : List ℕ) → s ≡ fileTo net explicit k ++ more → k < outputCount net
+      → ((f p : ℕ) → At s p more (length s) → outputRows s (maximum net) k f p ≡ fault e) → fileRead s ≡ failed e (lineOfOutput net k)
+  unfolding behind
+  file-fault e k more is-text l bad =
+      let w = parts k more is-text in
       let b =
-      body-fault s (maximum net) (inputCount net) (latchCount net) (outputCount net) (gateCount net) [] _ (0 + length h) 0 (0 + length h + length t1) f
-      (0 + length h + length t1 + length t2) e (lineOfOutput net k) (inputs-run _ _ _ (a1 .0)) (latches-run _ _ _ (a2 .0))
-      (faulty-run s (outputRows s (maximum net)) (outputLine net) (λ j. oneAt net (5 + 2 * latchCount net + j)) (λ _. f) e k (outputCount net) _ _ _ l (a2 .1)
-      (λ j x y i c. output-run f j x y (omega arith) c) (bad f _ (a .1))) in
-      rw (head-read s (maximum net) (inputCount net) (latchCount net) (outputCount net) (gateCount net) (0 + length h) (a0 .0) small, ok, b)
+      body-fault s (maximum net) (inputCount net) (latchCount net) (outputCount net) (gateCount net) [] _ (w .p0) 0 (w .p1) frees (w .p2) e (lineOfOutput net k)
+      (inputs-run _ _ _ (w .inputs)) (latches-run _ _ _ (w .latches))
+      (faulty-run s (outputRows s (maximum net)) (outputLine net) (λ j. oneAt net (5 + 2 * latchCount net + j)) (λ _. frees) e k (outputCount net) _ _ _ l (w .outputs)
+      (λ j x y i c. output-run frees j x y (omega arith) c) (bad frees _ (w .rest))) in
+      body (w .p0) (w .header) ∙ rw b
+
+  -- ---- a text that is a file up to the gates: these are read, and then the end
+  up-to-gates : (more : List ℕ) (x : Rows) → s ≡ fileTo net explicit (outputCount net) ++ more
+      → ((p : ℕ) → At s p more (length s) → gatesToEnd s (inputCount net) (latchCount net) (outputCount net) (gateCount net) frees p ≡ x)
+      → fileRead s ≡ behind (maximum net ∷ inputCount net ∷ latchCount net ∷ outputCount net ∷ gateCount net ∷ []) (behind [] (behind (joined (λ k. pairAt net (5 + 2 * k)) (latchCount net)) (behind (joined (λ k. oneAt net (5 + 2 * latchCount net + k)) (outputCount net)) x)))
+  up-to-gates more x is-text then =
+      let w = parts (outputCount net) more is-text in
+      let b =
+      body-made s (maximum net) (inputCount net) (latchCount net) (outputCount net) (gateCount net) [] _ _ (w .p0) 0 (w .p1) frees (w .p2) frees (w .p3)
+      (inputs-run _ _ _ (w .inputs)) (latches-run _ _ _ (w .latches)) (outputs-run frees _ _ _ (w .outputs)) in
+      body (w .p0) (w .header) ∙ rw (b, then (w .p3) (w .rest))
+
+  -- the line of gate k has a fault
+  pub gate-fault : (e : Fault) (k : ℕ) (more : List ℕ) → s ≡ fileTo net explicit (outputCount net) ++ (joined (gateLine net) k ++ more) → k < gateCount net
+      → ((f p : ℕ) → At s p more (length s) → gateRows s (inputCount net) (latchCount net) k f p ≡ fault e) → fileRead s ≡ failed e (lineOfGate net k)
+  unfolding behind
+  gate-fault e k more is-text l bad =
+      up-to-gates (joined (gateLine net) k ++ more) (failed e (lineOfGate net k)) is-text
+      (λ p a.
+      let w = at-split (joined (gateLine net) k) more a in
+      no-end s _ _ e (lineOfGate net k)
+      (faulty-run s (gateRows s (inputCount net) (latchCount net)) (gateLine net) (λ j. pairAt net (5 + 2 * latchCount net + outputCount net + 2 * j)) (λ _. frees) e k (gateCount net) _ _ _ l (w .0)
+      (λ j x y i c. gate-run frees j x y (omega arith) c) (bad frees _ (w .1))))
+
+  -- ---- the whole
+  whole : fileWith net explicit ≡ fileTo net explicit (outputCount net) ++ joined (gateLine net) (gateCount net)
+  unfolding fileWith fileTo
+  whole = rw (append-assoc, append-assoc, append-assoc)
+
+  file-read : s ≡ fileWith net explicit → length net ≡ sizeOf net → (free q : ℕ) × (fileRead s ≡ rows net free q)
+  unfolding behind
+  file-read e size =
+      let r =
+      up-to-gates (joined (gateLine net) (gateCount net)) (rows (joined (λ k. pairAt net (5 + 2 * latchCount net + outputCount net + 2 * k)) (gateCount net)) frees (length s)) (e ∙ whole)
+      (λ p a. to-end s _ _ _ frees (length s) (gates-run frees _ _ _ a) refl) in
+      (frees, length s, r ∙ ap (λ (x : List ℕ). rows x frees (length s)) (sym (made net size)))
+
+  -- and something behind it
+  pub file-extra : (more : List ℕ) → s ≡ fileWith net explicit ++ more → 0 < length more
+      → fileRead s ≡ failed WrongShape (inputCount net + latchCount net + outputCount net + gateCount net + 2)
+  unfolding behind
+  file-extra more e some =
+      let g = joined (gateLine net) (gateCount net) in
+      let n = inputCount net + latchCount net + outputCount net + gateCount net + 2 in
+      up-to-gates (g ++ more) (failed WrongShape n) (e ∙ ap (λ (x : List ℕ). x ++ more) whole ∙ append-assoc (fileTo net explicit (outputCount net)) g more)
+      (λ p a.
+      let w = at-split g more a in
+      past-end s _ n _ frees (p + length g) (gates-run frees _ _ _ (w .0)) (λ (z : p + length g ≡ length s). absurd (omega (arith, w .1 .place))))
 
 pub complete : (text net : List ℕ) → IsFile text net → (free q : ℕ) × (fileRead text ≡ rows net free q)
 complete text net f = file-read text net (f .explicit) (f .netlist) (f .is) (f .exact)

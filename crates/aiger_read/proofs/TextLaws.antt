@@ -229,7 +229,16 @@ module _ (s : List ℕ) (f p q : ℕ) where
       let n = latch-numbers explicit lit next reset m1 m2 m3 a in
       rw (n .1, n .2, n .3, n .4, eq-eqb lit lit refl, le-leb next last h, g)
 
--- ---- faulty: an output's line with a number that does not fit, or with none
+-- ---- faulty: an output's line with a number that does not fit; a line without its numbers
+
+-- what is no line of suc n numbers
+judged-none : (s : List ℕ) (n p : ℕ) (g : List ℕ → ℕ → Row) → ((vs : List ℕ) (r : ℕ) → fieldsOf s n p ≡ fields vs r → ⊥) → judged (fieldsOf s n p) g ≡ fault WrongShape
+unfolding judged
+judged-none s n p g none = go (fieldsOf s n p) refl
+  where
+    go : (x : Fields) → fieldsOf s n p ≡ x → judged x g ≡ fault WrongShape
+    go wrong e = refl
+    go (fields vs r) e = absurd (none vs r e)
 
 module _ (s : List ℕ) (f p last : ℕ) where
   pub output-above : (v q : ℕ) → last < v → v < 100000 → At s p (literalRow v) q → outputAt s last f p ≡ fault OutOfLimits
@@ -237,11 +246,17 @@ module _ (s : List ℕ) (f p last : ℕ) where
   output-above v q h m a = rw (stand-fields s [] v p q (m, tt) a, lt-leb v last h)
 
   pub output-wrong : ((v r : ℕ) → v < 100000 → At s p (literalRow v) r → ⊥) → outputAt s last f p ≡ fault WrongShape
-  unfolding outputAt judged Small
-  output-wrong none = go (fieldsOf s 0 p) refl
-    where
-      go : (x : Fields) → fieldsOf s 0 p ≡ x → judged x (λ vs q. cond (leb (getD vs 0 0) last) (row (getD vs 0 0 ∷ []) f q) (fault OutOfLimits)) ≡ fault WrongShape
-      go wrong e = refl
-      go (fields vs r) e =
-          let n = one vs (fields-length s 0 p vs r e) in
-          absurd (none (getD vs 0 0) r (subst Small n (fields-stand s 0 p vs r e .small) .0) (one-at s f p [] f r vs r e))
+  unfolding outputAt Small
+  output-wrong none =
+      judged-none s 0 p _
+      (λ vs r e.
+      let few = subst Small (one vs (fields-length s 0 p vs r e)) (fields-stand s 0 p vs r e .small) in
+      none (getD vs 0 0) r (few .0) (one-at s f p [] f r vs r e))
+
+pub gate-wrong : (s : List ℕ) (f p lit : ℕ) → ((v r0 r1 r : ℕ) → (v < 100000) × (r0 < 100000) × (r1 < 100000) → At s p (gateRow v r0 r1) r → ⊥) → gateAt s lit f p ≡ fault WrongShape
+unfolding gateAt Small
+gate-wrong s f p lit none =
+    judged-none s 2 p _
+    (λ vs r e.
+    let few = subst Small (three vs (fields-length s 2 p vs r e)) (fields-stand s 2 p vs r e .small) in
+    none (getD vs 0 0) (getD vs 1 0) (getD vs 2 0) r (few .0, few .1 .0, few .1 .1 .0) (three-at s f p [] f r vs r e))

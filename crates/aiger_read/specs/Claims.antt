@@ -1,5 +1,6 @@
 -- What the contract of read claims: it takes exactly the files, reading what was written gives the same
--- numbers, and a header out of limits and a faulty output are told at their own lines. Assumes nothing.
+-- numbers, and a header out of limits, a faulty output, a gate of the wrong shape and what stands behind the
+-- last line are told at their own lines. Assumes nothing.
 use mathlib.Core.Path.{_≡_}
 use mathlib.Core.Bool.{Bool, true, false}
 use mathlib.Core.List.{List, _++_}
@@ -9,8 +10,8 @@ use Rattle.text.specs.Writer.{joined}
 use Rattle.netlist.specs.Layout.{maximum, inputCount, latchCount, outputCount, gateCount, sizeOf}
 use Rattle.netlist.specs.Literals.{literalOf}
 use Rattle.netlist.specs.Valid.{headerOk, isNetlist}
-use Rattle.aiger.specs.Rows.{headerRow, literalRow}
-use Rattle.aiger.specs.Format.{inputLine, latchLine, outputLine, fileWith, fileOf}
+use Rattle.aiger.specs.Rows.{headerRow, literalRow, gateRow}
+use Rattle.aiger.specs.Format.{inputLine, latchLine, outputLine, gateLine, fileWith, fileOf}
 use Rattle.aiger_read.specs.declared.Fault.{Fault}
 use Rattle.aiger_read.specs.declared.Fault.the-variants.{WrongShape, OutOfLimits}
 use Rattle.aiger_read.specs.declared.Cause.the-variants.{TextTooLong, ShortBuffer, FaultyLine}
@@ -30,9 +31,12 @@ fileTo net explicit k =
     headerRow (maximum net) (inputCount net) (latchCount net) (outputCount net) (gateCount net)
     ++ (joined inputLine (inputCount net) ++ (joined (latchLine net explicit) (latchCount net) ++ joined (outputLine net) k))
 
--- the number of that line
+-- the number of that line, and of the line of gate k
 abbrev pub lineOfOutput : List ℕ → ℕ → ℕ
 lineOfOutput net k = inputCount net + latchCount net + 2 + k
+
+abbrev pub lineOfGate : List ℕ → ℕ → ℕ
+lineOfGate net k = inputCount net + latchCount net + outputCount net + 2 + k
 
 -- a text starts with the line of a number of at most five digits
 pub record StartsWithNumber (text : List ℕ) : Type 0 where
@@ -40,6 +44,15 @@ pub record StartsWithNumber (text : List ℕ) : Type 0 where
   pub more : List ℕ
   pub small : lit < 100000
   pub is : text ≡ literalRow lit ++ more
+
+-- or with the line of three such numbers
+pub record StartsWithThree (text : List ℕ) : Type 0 where
+  pub lit : ℕ
+  pub r0 : ℕ
+  pub r1 : ℕ
+  pub more : List ℕ
+  pub small : (lit < 100000) × (r0 < 100000) × (r1 < 100000)
+  pub is : text ≡ gateRow lit r0 r1 ++ more
 
 -- THE CLAIM, of any text and any buffer lent
 pub record ReadMeans : Type 0 where
@@ -75,3 +88,12 @@ pub record ReadMeans : Type 0 where
   pub shape : (net buf : List ℕ) (explicit : ℕ → Bool) (k : ℕ) (more : List ℕ) → isNetlist net ≡ true → k < outputCount net
       → (StartsWithNumber more → ⊥) → length (fileTo net explicit k ++ more) ≤ 65536
       → readOf (fileTo net explicit k ++ more) buf ≡ readEnd (Refused (FaultyLine WrongShape (lineOfOutput net k))) buf
+  -- where the line of gate k is due, what is no line of three numbers, or nothing at all, has the wrong shape, there
+  pub gate-shape : (net buf : List ℕ) (explicit : ℕ → Bool) (k : ℕ) (more : List ℕ) → isNetlist net ≡ true → k < gateCount net
+      → (StartsWithThree more → ⊥) → length (fileTo net explicit (outputCount net) ++ (joined (gateLine net) k ++ more)) ≤ 65536
+      → readOf (fileTo net explicit (outputCount net) ++ (joined (gateLine net) k ++ more)) buf ≡ readEnd (Refused (FaultyLine WrongShape (lineOfGate net k))) buf
+  -- behind a whole file nothing may stand: a line more, or what begins one, has the wrong shape, at its line
+  pub extra : (net buf : List ℕ) (explicit : ℕ → Bool) (more : List ℕ) → isNetlist net ≡ true → 0 < length more
+      → length (fileWith net explicit ++ more) ≤ 65536
+      → readOf (fileWith net explicit ++ more) buf
+      ≡ readEnd (Refused (FaultyLine WrongShape (inputCount net + latchCount net + outputCount net + gateCount net + 2))) buf

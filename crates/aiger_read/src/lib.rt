@@ -1,7 +1,7 @@
 // The reader of the AIGER ASCII format: a file's netlist into a lent buffer of 16-bit numbers. Knows
 // nothing of graphs. Exports that it takes exactly the files of netlists, explicit resets 0 allowed, that
-// reading what was written gives the same numbers, and at which line it tells a header out of limits and a
-// faulty output.
+// reading what was written gives the same numbers, and at which line it tells a header out of limits, a
+// faulty output, a gate of the wrong shape and what stands behind the last line.
 use netlist::Literal;
 use netlist::Variable;
 use text::Refusal;

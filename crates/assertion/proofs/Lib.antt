@@ -2,6 +2,7 @@
 pub mod ListLaws
 pub mod TerminalLaws
 pub mod SinceLaws
+pub mod CountLaws
 pub mod PathLaws
 pub mod VoidLaws
 pub mod AlikeLaws

@@ -13,6 +13,7 @@ use Rattle.assertion.proofs.ListLaws.{and-intro, and-left, and-right, l
 use Rattle.assertion.proofs.TerminalLaws.{reason, for-reason}
 use Rattle.assertion.proofs.AlikeLaws.{alike-each}
 use Rattle.assertion.proofs.SinceLaws.{since-none, since-some}
+use Rattle.assertion.proofs.CountLaws.{none-counted, rejected-more, checked-more}
 
 -- a setting is a list of the two bits
 pub bits : (σ : Setting) → From σ (false ∷ true ∷ [])
@@ -128,6 +129,9 @@ paths-mean =
       finds = λ g cs r. passes (isRejected g cs) (rejected-finds g cs r);
       checked-found = λ g cs e. checked-found g cs (subst T (sym e) tt);
       checked-finds = λ g cs r. passes (isChecked g cs) (checked-finds g cs r);
+      none = none-counted;
+      rejected-more = rejected-more;
+      checked-more = checked-more;
       latest = since-some;
       before-init = since-none;
       signal-bit = λ σ c i n. refl;

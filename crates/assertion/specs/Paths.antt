@@ -138,8 +138,8 @@ pub data TerminalEdge (g : Graph) (e : Edge) : Type 0 where
   unmarked : g .mode ≡ Unsaid → ((f : Edge) → List·Memᴰ f (g .edges) → f .marked ≡ false) → TerminalEdge g e
 
 -- ---- THE CLAIM on these definitions: the computed tests find a terminal edge, and a setting and a path of either
--- kind, exactly where there are some; `sinceInit` goes back to the latest init; and `==` holds exactly where the
--- two names are alike in each bit
+-- kind, exactly where there are some; a cycle that has some counts once; `sinceInit` goes back to the latest init;
+-- and `==` holds exactly where the two names are alike in each bit
 pub record PathsMean : Type 0 where
   pub terminal : (g : Graph) (e : Edge) → isTerminal g e ≡ true → TerminalEdge g e
   pub terminals : (g : Graph) (e : Edge) → TerminalEdge g e → isTerminal g e ≡ true
@@ -147,6 +147,10 @@ pub record PathsMean : Type 0 where
   pub finds : (g : Graph) (cs : List Cycle) → Rejected g cs → isRejected g cs ≡ true
   pub checked-found : (g : Graph) (cs : List Cycle) → isChecked g cs ≡ true → Checked g cs
   pub checked-finds : (g : Graph) (cs : List Cycle) → Checked g cs → isChecked g cs ≡ true
+  -- of no cycles none is counted; of one cycle more that one counts, and once, exactly where its test passes
+  pub none : (g : Graph) → (countRejected g [] ≡ 0) × (countChecked g [] ≡ 0)
+  pub rejected-more : (g : Graph) (cs : List Cycle) (c : Cycle) → countRejected g (cs ++ (c ∷ [])) ≡ countRejected g cs + cond (isRejected g (cs ++ (c ∷ []))) 1 0
+  pub checked-more : (g : Graph) (cs : List Cycle) (c : Cycle) → countChecked g (cs ++ (c ∷ [])) ≡ countChecked g cs + cond (isChecked g (cs ++ (c ∷ []))) 1 0
   pub latest : (cs : List Cycle) → any isInit cs ≡ true → Latest cs
   pub before-init : (cs : List Cycle) → any isInit cs ≡ false → sinceInit cs ≡ []
   pub signal-bit : (σ : Setting) (c : Cycle) (i n : ℕ) → bitHolds σ c (signalsFrom i) n ≡ holds σ c (signal (i + n))

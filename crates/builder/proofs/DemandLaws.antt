@@ -1,5 +1,5 @@
 -- DEMAND 3 of what build leaves and answers. Assumes nothing.
-use mathlib.Core.Path.{_≡_, refl, sym, subst, _∙_}
+use mathlib.Core.Path.{_≡_, refl, sym, ap, subst, _∙_}
 use mathlib.Core.Bool.{Bool, true, false, cond, not}
 use mathlib.Core.List.{List, [], _++_, append-nil}
 use Prim.Native.Nat.{ℕ, _+_, _*_, _≤_, _<_}
@@ -10,12 +10,12 @@ use lib.ListN.{length, drop}
 use Rattle.assertion.specs.Graph.{Bytes, Graph, signalBits, constantBits}
 use Rattle.graph.specs.Reading.{refused, accepted, graphOf}
 use Rattle.graph.specs.declared.Cause as graph
-use Rattle.netlist.specs.Valid.{isNetlist}
-use Rattle.netlist.proofs.ValidLaws.{Valid, valid}
-use Rattle.circuit.specs.Checked.{gatesWith}
+use Rattle.circuit.specs.Checked.{gatesWith, outputsWith}
 use Rattle.circuit.specs.Numbers.{numbersWith}
 use Rattle.circuit.proofs.Fits.{Fits}
-use Rattle.circuit.proofs.Netlist.{numbers-netlist}
+use Rattle.circuit.specs.Count.{gateFormulaWith}
+use Rattle.circuit.proofs.CheckedCount.{count-with}
+use Rattle.circuit.proofs.Places.{long}
 use Rattle.circuit.proofs.AlikeGates.{alike-means}
 use Rattle.circuit.proofs.CheckedGates.{checked-means}
 use Rattle.demand.proofs.Demand.{demand3}
@@ -23,7 +23,7 @@ use Rattle.demand.proofs.Forms.{either-form}
 use Rattle.builder.specs.declared.Cause.the-variants.{GraphText, TooManyVariables, ShortBuffer}
 use Rattle.builder.specs.declared.Built.the-variants.{Gates, Refused}
 use Rattle.builder.specs.Build.{variablesOf, BuildEnd, buildEnd, buildAs, buildOf}
-use Rattle.builder.specs.Claims.{BuildMeans}
+use Rattle.builder.specs.Claims.{gatesDue, variablesDue, numbersDue, BuildMeans}
 use Rattle.builder.proofs.GraphLaws.{fits}
 
 -- an accepted build of g: M is within the limit, the number answered is that of the gates, and the buffer is
@@ -56,31 +56,34 @@ module _ (checked : Bool) (g : Graph) (net : List ℕ) where
       go true h false e = let z : _≡_ {A = ℕ} 0 1 = cc in absurd (omega arith)
       go true h true e = record { small = leb-true (variablesOf checked g) 4095 h; count = cc; numbers = refl }
 
-  -- the numbers are a netlist exactly if M is within the limit
-  netlist-small : isNetlist numbers ≡ true → variablesOf checked g ≤ 4095
-  unfolding variablesOf numbersWith
-  netlist-small n = let v = valid numbers n in v .small
+  -- by the formula
+  module _ (f : Fits g) where
+    count : length (gatesWith checked g) ≡ gatesDue checked g
+    unfolding gateFormulaWith
+    count = count-with checked g f
 
-  built : isNetlist numbers ≡ true → length numbers ≤ length net → buildAs checked (accepted g) net .answer ≡ Gates (length (gatesWith checked g))
-  unfolding buildAs
-  built n l = rw (le-leb (variablesOf checked g) 4095 (netlist-small n), le-leb (length numbers) (length net) l)
+    due : variablesOf checked g ≡ variablesDue checked g
+    unfolding variablesOf
+    due = omega (arith, count)
 
-  too-short : isNetlist numbers ≡ true → length net < length numbers → buildAs checked (accepted g) net ≡ short
-  unfolding buildAs
-  too-short n l = rw (le-leb (variablesOf checked g) 4095 (netlist-small n), lt-leb (length numbers) (length net) l)
+    size : length numbers ≡ numbersDue checked g
+    size = ap length (sym (append-nil numbers)) ∙ long g checked [] ∙ omega (arith, count, outs checked)
+      where
+        outs : (b : Bool) → length (outputsWith b g) ≡ cond b 2 1
+        outs true = refl
+        outs false = refl
 
-  too-many : Fits g → isNetlist numbers ≡ false → buildAs checked (accepted g) net ≡ many
-  unfolding buildAs variablesOf
-  too-many f n = go (leb (variablesOf checked g) 4095) refl
-    where
-      go : (b : Bool) → leb (variablesOf checked g) 4095 ≡ b → cond (not b) many (cond (not (leb (length numbers) (length net))) short last) ≡ many
-      go false h = refl
-      go true h =
-          let l : variablesOf checked g ≤ 4095 = leb-true (variablesOf checked g) 4095 h in
-          let s : isNetlist (numbers ++ []) ≡ true = numbers-netlist checked g f (omega arith) [] in
-          let z : _≡_ {A = Bool} true false = sym (rw append-nil at s) ∙ n in
-          let y : _≡_ {A = ℕ} 0 1 = cc in
-          absurd (omega arith)
+    built : variablesDue checked g ≤ 4095 → numbersDue checked g ≤ length net → buildAs checked (accepted g) net .answer ≡ Gates (gatesDue checked g)
+    unfolding buildAs
+    built m l = rw (le-leb (variablesOf checked g) 4095 (omega (arith, due)), le-leb (length numbers) (length net) (omega (arith, size)), count)
+
+    too-short : variablesDue checked g ≤ 4095 → length net < numbersDue checked g → buildAs checked (accepted g) net ≡ short
+    unfolding buildAs
+    too-short m l = rw (le-leb (variablesOf checked g) 4095 (omega (arith, due)), lt-leb (length numbers) (length net) (omega (arith, size)))
+
+    too-many : 4095 < variablesDue checked g → buildAs checked (accepted g) net ≡ many
+    unfolding buildAs
+    too-many m = rw (lt-leb (variablesOf checked g) 4095 (omega (arith, due)))
 
 unread-text : (checked : Bool) (cause : graph.Cause) (net : List ℕ) → buildAs checked (refused cause) net ≡ buildEnd (Refused (GraphText cause)) net
 unfolding buildAs
@@ -94,8 +97,9 @@ build-means checked text net =
       demand = λ g made e a surplus.
           let m = so g made e a in
           rw (m .count) (demand3 checked g (fits text e) (small g (m .small)) surplus);
-      accepts = λ g e n l. rw e (built checked g net n l);
-      short = λ g e n l. rw e (too-short checked g net n l);
+      accepts = λ g e n l. rw e (built checked g net (fits text e) n l);
+      size = λ g e. size checked g net (fits text e);
+      short = λ g e n l. rw e (too-short checked g net (fits text e) n l);
       refuses = λ g e n. rw e (too-many checked g net (fits text e) n);
       unread = λ cause e. rw e (unread-text checked cause net);
       compared = alike-means;

@@ -21,13 +21,13 @@ use Rattle.builder.specs.declared.Cause.the-variants.{TooManyVariables, 
 use Rattle.builder.specs.declared.Built.the-variants as built
 use Rattle.builder.specs.Build.{variablesOf, buildEnd, buildAs}
 use Rattle.builder.specs.Private.Edges.{GraphGood, Accepted}
-use Rattle.builder.specs.Private.Monitor.{outputCount, frontOf, edgePairs, gatesIn, frontIn, numbersIn, monitorEdges}
+use Rattle.builder.specs.Private.Monitor.{outputsAsked, frontOf, edgePairs, gatesIn, frontIn, numbersIn, monitorEdges}
 use Rattle.builder.proofs.EdgeLaws.{chosen}
 use Rattle.builder.proofs.BuildLaws.{gates-are, outputs-are, latches-are}
 use Rattle.builder.proofs.LayoutLaws as layout
 use Rattle.builder.proofs.GraphLaws as held
 
-outputs-count : (checked : Bool) (g : Graph) → outputCount checked ≡ length (outputsWith checked g)
+outputs-count : (checked : Bool) (g : Graph) → outputsAsked checked ≡ length (outputsWith checked g)
 outputs-count true g = refl
 outputs-count false g = refl
 
@@ -94,21 +94,21 @@ module _ (text : Bytes) (g : CheckedGraph) (a : Accepted text g) where
     unfolding variablesOf
     variables = omega (arith, fields .0, fields .1, fields .2, ap length gates-of)
 
-    pub size : length (numbersIn checked text g) ≡ 5 + outputCount checked + 2 * (g .constants + 2 * g .edges) + 2 * length (gatesIn checked text g)
+    pub size : length (numbersIn checked text g) ≡ 5 + outputsAsked checked + 2 * (g .constants + 2 * g .edges) + 2 * length (gatesIn checked text g)
     size = omega (arith, layout.numbers-length checked text g good)
 
     module _ (net : List ℕ) {r : ℕ} (c : r ≡ length (gatesIn checked text g)) (graph : Graph) (q : graphOf text ≡ accepted graph) where
       pub many : 4095 - (1 + g .signals + (g .constants + 2 * g .edges)) < r → buildEnd (built.Refused TooManyVariables) net ≡ buildAs checked (accepted graph) net
       many h = many-of checked graph net (rw (same-graph graph q) at (let w : 4095 < variablesOf checked (a .graph) = omega (arith, variables) in w))
 
-      pub short : {o : ℕ} → o ≡ outputCount checked → r ≤ 4095 - (1 + g .signals + (g .constants + 2 * g .edges)) → length net < 5 + o + 2 * (g .constants + 2 * g .edges) + 2 * r →
+      pub short : {o : ℕ} → o ≡ outputsAsked checked → r ≤ 4095 - (1 + g .signals + (g .constants + 2 * g .edges)) → length net < 5 + o + 2 * (g .constants + 2 * g .edges) + 2 * r →
           buildEnd (built.Refused ShortBuffer) net ≡ buildAs checked (accepted graph) net
       short k h l =
           let few : variablesOf checked (a .graph) ≤ 4095 = omega (arith, variables, good .signals, good .constants, good .edges) in
           let long : length net < length (numbersWith checked (a .graph)) = omega (arith, size, ap length numbers-of) in
           short-of checked graph net (rw (same-graph graph q) at few) (rw (same-graph graph q) at long)
 
-      pub done : {o made : ℕ} {out : List ℕ} → o ≡ outputCount checked → r ≤ 4095 - (1 + g .signals + (g .constants + 2 * g .edges)) → 5 + o + 2 * (g .constants + 2 * g .edges) + 2 * r ≤ length net →
+      pub done : {o made : ℕ} {out : List ℕ} → o ≡ outputsAsked checked → r ≤ 4095 - (1 + g .signals + (g .constants + 2 * g .edges)) → 5 + o + 2 * (g .constants + 2 * g .edges) + 2 * r ≤ length net →
           made ≡ length (gatesIn checked text g) → out ≡ numbersIn checked text g ++ drop (length (numbersIn checked text g)) net → buildEnd (built.Gates made) out ≡ buildAs checked (accepted graph) net
       done k h l m o =
           let few : variablesOf checked (a .graph) ≤ 4095 = omega (arith, variables, good .signals, good .constants, good .edges) in

@@ -15,7 +15,7 @@ use Rattle.graph.specs.declared.CheckedGraph.{CheckedGraph}
 use Rattle.circuit.specs.Numbers.{constantLatches, operands}
 use Rattle.builder.specs.Private.Adding.{Room}
 use Rattle.builder.specs.Private.Edges.{edgesIn, edgeOf, edgesOf, GraphGood}
-use Rattle.builder.specs.Private.Monitor.{edgePairs, outputsOf, outputCount, headerOf, frontOf, monitorGates, monitorEdges, MonitorMade, latchIn, gateIn, gatesIn, frontIn, numbersIn}
+use Rattle.builder.specs.Private.Monitor.{edgePairs, outputsOf, outputsAsked, headerOf, frontOf, monitorGates, monitorEdges, MonitorMade, latchIn, gateIn, gatesIn, frontIn, numbersIn}
 use Rattle.builder.specs.declared.Outputs.{Outputs}
 use Rattle.builder.proofs.AddingLaws.{words-length, kept}
 use Rattle.builder.proofs.EdgeLaws.{edges-count}
@@ -29,15 +29,15 @@ pairs-length [] ds h = refl
 pairs-length (x ∷ hs) [] h = absurd (omega arith)
 pairs-length (x ∷ hs) (y ∷ ds) h = omega (arith, pairs-length hs ds (omega arith))
 
-outputs-length : (checked : Bool) (o t : ℕ) → length (outputsOf checked o t) ≡ outputCount checked
+outputs-length : (checked : Bool) (o t : ℕ) → length (outputsOf checked o t) ≡ outputsAsked checked
 outputs-length true o t = refl
 outputs-length false o t = refl
 
-pub outputs-some : (checked : Bool) → 1 ≤ outputCount checked
+pub outputs-some : (checked : Bool) → 1 ≤ outputsAsked checked
 outputs-some true = omega arith
 outputs-some false = omega arith
 
-pub outputs-two : (checked : Bool) → checked ≡ true → outputCount checked ≡ 2
+pub outputs-two : (checked : Bool) → checked ≡ true → outputsAsked checked ≡ 2
 outputs-two checked e = rw e
 
 -- the outputs stored one after another
@@ -48,7 +48,7 @@ pub one-stored : (checked : Bool) (net : List ℕ) (q o t : ℕ) → checked ≡
 one-stored checked net q o t e = rw e
 
 module _ (checked : Bool) (hs ds : List ℕ) (s k e a o t : ℕ) (hl : length hs ≡ e) (dl : length ds ≡ e) where
-  pub front-length : length (frontOf checked s k e a hs ds o t) ≡ 5 + outputCount checked + 2 * k + 4 * e
+  pub front-length : length (frontOf checked s k e a hs ds o t) ≡ 5 + outputsAsked checked + 2 * k + 4 * e
   unfolding frontOf
   front-length =
       omega (
@@ -62,11 +62,11 @@ module _ (checked : Bool) (hs ds : List ℕ) (s k e a o t : ℕ) (hl : length hs
 
   -- stored one after another
   pub front-all : (net : List ℕ) (p q : ℕ) → p ≡ 5 + 2 * k → q ≡ p + 4 * e →
-      sets (sets (sets (sets net 0 (headerOf (1 + s) (k + 2 * e) (outputCount checked) a)) 5 (constantLatches (2 + s) k)) p (edgePairs hs ds)) q (outputsOf checked o t)
+      sets (sets (sets (sets net 0 (headerOf (1 + s) (k + 2 * e) (outputsAsked checked) a)) 5 (constantLatches (2 + s) k)) p (edgePairs hs ds)) q (outputsOf checked o t)
       ≡ sets net 0 (frontOf checked s k e a hs ds o t)
   unfolding frontOf
   front-all net p q ep eq =
-      let H = headerOf (1 + s) (k + 2 * e) (outputCount checked) a in
+      let H = headerOf (1 + s) (k + 2 * e) (outputsAsked checked) a in
       let C = constantLatches (2 + s) k in
       let L = edgePairs hs ds in
       let O = outputsOf checked o t in
@@ -116,7 +116,7 @@ made checked text g e m d = omega (arith, e, m .gates .count, d)
 
 module _ (checked : Bool) (text : Bytes) (g : CheckedGraph) (good : GraphGood text g) where
   abbrev base : ℕ
-  base = 5 + outputCount checked + 2 * g .constants + 4 * g .edges
+  base = 5 + outputsAsked checked + 2 * g .constants + 4 * g .edges
 
   front-in : length (frontIn checked text g) ≡ base
   unfolding frontIn

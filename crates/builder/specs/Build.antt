@@ -23,7 +23,7 @@ refusalOf (GraphText cause) = reading.refusalOf cause
 refusalOf TooManyVariables = record { number = 11; line = 0 }
 refusalOf ShortBuffer = record { number = 12; line = 0 }
 
--- M = I + L + A of the monitor of a graph
+-- M = I + L + A of the monitor of a graph, with checked or without
 unfoldable pub variablesOf : Bool → Graph → ℕ
 variablesOf checked g = (1 + signalBits g) + (constantBits g + 2 * length (g .edges)) + length (gatesWith checked g)
 

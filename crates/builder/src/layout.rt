@@ -5,7 +5,7 @@ ghost use Prim.Native.Nat.{_+_, _*_, _≤_};
 ghost use lib.ListN.{length, take, drop};
 ghost use lib.Seq.{sets};
 ghost use Rattle.builder.specs.Private.Edges.{GraphGood};
-ghost use Rattle.builder.specs.Private.Monitor.{outputCount, headerOf, frontOf, gatesIn, numbersIn};
+ghost use Rattle.builder.specs.Private.Monitor.{outputsAsked, headerOf, frontOf, gatesIn, numbersIn};
 use crate::Outputs;
 use crate::gates::SIGNAL;
 use crate::gates::after;
@@ -20,7 +20,7 @@ pub(crate) const HEADER: usize = 5;
 
 // How many outputs there are: accept, and checked where it is asked for.
 pub(crate) fn output_count(checked: bool) -> usize
-    ensures { λ r. ⌜ (r ≡ outputCount checked) × (r ≤ 2) ⌝ }
+    ensures { λ r. ⌜ (r ≡ outputsAsked checked) × (r ≤ 2) ⌝ }
 {
     if checked { 2 } else { 1 }
 }
@@ -49,7 +49,7 @@ fn put_front(
     checked: bool,
     made: Outputs,
 )
-    requires { ⌜ (5 + outputCount checked + 2 * constants + 4 * edges ≤ length (now net)) × ((1 + signals) + (constants + 2 * edges) + gates ≤ 4095)
+    requires { ⌜ (5 + outputsAsked checked + 2 * constants + 4 * edges ≤ length (now net)) × ((1 + signals) + (constants + 2 * edges) + gates ≤ 4095)
         × (edges ≤ length (now happy)) × (edges ≤ length (now condemned)) ⌝ }
     ensures { λ _. ⌜ now (net .exit) ≡ sets (now (net .entry)) 0 (frontOf checked signals constants edges gates (take edges (now (happy .entry))) (take edges (now (condemned .entry))) (made .accept .0) (made .second .0)) ⌝ }
 {

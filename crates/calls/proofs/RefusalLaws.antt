@@ -6,7 +6,7 @@ use Prim.Native.Nat.{ℕ, suc, _+_, _<_, _≤_}
 use native.Mathlib.Omega.{arith}
 use lib.Dec.{leb, eqb}
 use lib.ListN.{length}
-use borrow.Author.Tests.{eqb-true, eqb-false, leb-true, le-leb, lt-leb}
+use borrow.Author.Tests.{eqb-true, eqb-false, leb-true, le-leb}
 use Rattle.netlist.specs.Layout.{maximum, inputCount, latchCount}
 use Rattle.netlist.specs.Valid.{isNetlist}
 use Rattle.netlist.proofs.EachLaws.{both}
@@ -145,11 +145,6 @@ line-told true true d g f k e = go (eqb f 0) refl d g e
     go true c true true e = absurd (omega (arith, ap toldBy e))
 
 module _ (net trace : List ℕ) (nl nv nb : ℕ) (t : Tally) where
-  -- a trace that is too long is refused before anything else
-  pub run-too-long : 1048576 < length trace → runCheck net trace nl nv nb t ≡ Failed TraceTooLong
-  unfolding runCheck isShort
-  run-too-long h = rw (lt-leb (length trace) 1048576 h)
-
   -- the line of a refusal is the first wrong one
   pub run-wrong-line : (k : ℕ) → runCheck net trace nl nv nb t ≡ Failed (WrongLine k) → (faultOf (inputCount net) trace ≡ k) × (0 < k)
   unfolding runCheck

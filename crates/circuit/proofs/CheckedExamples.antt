@@ -1,5 +1,5 @@
 -- Worked examples of monitors with the second output, checked, and beside them without; a byte 48 is `0`, 49 is `1`. Assumes nothing.
-use Prim.Native.Nat.{ℕ, zero, suc, _*_}
+use Prim.Native.Nat.{ℕ, zero, suc, _+_, _*_}
 use mathlib.Core.Path.{_≡_, refl}
 use mathlib.Core.Bool.{Bool, true, false}
 use mathlib.Core.List.{List, [], _∷_, map}
@@ -14,7 +14,7 @@ use Rattle.circuit.specs.Gates.{inv, gate}
 use Rattle.circuit.specs.Build.{firstEdgeLatch, firstGate, formula, happyOr, condemnedOr, edgePiece, masked, gathered, judged, accepted, gatesOf}
 use Rattle.circuit.specs.Checked.{checkedPiece, gatesWith, outputsWith}
 use Rattle.circuit.specs.Numbers.{operands, numbersWith}
-use Rattle.circuit.specs.Count.{formulaGates, gateFormula, gateFormulaWith, mostGates}
+use Rattle.circuit.specs.Count.{formulaGates, allOperators, gateFormula, gateFormulaWith}
 
 -- names of one bit: `p`, `q`, `k`
 abbrev p : Name
@@ -106,7 +106,7 @@ three-gates : map (λ (checked : Bool). length (gatesWith checked (loops (copies
 unfolding gatesOf accepted judged gathered masked firstGate firstEdgeLatch signalBits constantBits bitsOf edgePiece condemnedOr happyOr formula gate inv literalOf variableOf isInverted isTerminal checkedPiece
 three-gates = refl
 
-three-bound : mostGates true (loops (copies 3 marked)) ≡ 36
+three-bound : 12 * length (loops (copies 3 marked) .edges) + 3 * allOperators (loops (copies 3 marked) .edges) ≡ 36
 unfolding operators
 three-bound = refl
 
@@ -131,7 +131,7 @@ most-formula : gateFormulaWith true (loops (copies 128 marked)) ≡ 1533
 unfolding gateFormulaWith gateFormula formulaGates isTerminal
 most-formula = refl
 
-most-bound : mostGates true (loops (copies 128 marked)) ≡ 1536
+most-bound : 12 * length (loops (copies 128 marked) .edges) + 3 * allOperators (loops (copies 128 marked) .edges) ≡ 1536
 unfolding operators
 most-bound = refl
 

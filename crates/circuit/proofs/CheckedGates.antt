@@ -13,7 +13,7 @@ use Rattle.circuit.specs.Gates.{Gate, gate, Piece}
 use Rattle.circuit.specs.Build.{Bits, Two, orAll, firstGate, judged, gatesOf}
 use Rattle.circuit.specs.Checked.{terminalTwos, alives, checkedPiece}
 use Rattle.circuit.specs.Count.{terminals}
-use Rattle.circuit.specs.Claims.{gateAt, nowAt, aliveAt, CheckedGates, CheckedMeans}
+use Rattle.circuit.specs.Claims.{gateAt, nowAt, inverseAt, CheckedGates, CheckedMeans}
 use Rattle.circuit.proofs.Count.{or-length, cond-length, judged-gates}
 use Rattle.circuit.proofs.Joins.{orGate, orLiteral, all-first, all-next, all-out, all-one, or-chain}
 
@@ -31,7 +31,7 @@ alive-at [] n k l = absurd (omega arith)
 alive-at (m ∷ ms) n zero l = refl
 alive-at (m ∷ ms) n (suc k) l = alive-at ms (suc n) k (omega arith)
 
-outs-at : (ms : List Two) (n k : ℕ) → k < length ms → getD (alives n ms .outs) k 0 ≡ aliveAt n k
+outs-at : (ms : List Two) (n k : ℕ) → k < length ms → getD (alives n ms .outs) k 0 ≡ inverseAt n k
 outs-at [] n k l = absurd (omega arith)
 outs-at (m ∷ ms) n zero l = ap orLiteral (omega arith)
 outs-at (m ∷ ms) n (suc k) l = outs-at ms (suc n) k (omega arith) ∙ ap orLiteral (omega arith)
@@ -102,7 +102,7 @@ module _ (g : Graph) where
       ap (gateAt xs) e ∙ getD-append-add (gatesOf g) (lives .gates ++ joined .gates) (length (lives .gates) + j) (gate 0 0)
       ∙ getD-append-add (lives .gates) (joined .gates) j (gate 0 0)
 
-  out-at : (k : ℕ) → k < t → getD (lives .outs) k 0 ≡ aliveAt n k
+  out-at : (k : ℕ) → k < t → getD (lives .outs) k 0 ≡ inverseAt n k
   out-at k l = outs-at ms n k (omega (arith, many .0))
 
   alive : (before after : List Edge) (e : Edge) → g .edges ≡ before ++ (e ∷ after) → isTerminal g e ≡ true
@@ -114,7 +114,7 @@ module _ (g : Graph) where
       ap (λ (es : List Edge). getD (terminalTwos g es (judged g .outs)) (terminals g before) no) h ∙ twos-at g after e is before (judged g .outs) q in
       early (terminals g before) l ∙ ap (λ (x : Two). orGate (x .condemned) (x .happy)) w
 
-  last : (k : ℕ) → t ≡ suc k → joined .out ≡ aliveAt n (2 * t - 2)
+  last : (k : ℕ) → t ≡ suc k → joined .out ≡ inverseAt n (2 * t - 2)
   last zero e = all-one orGate orLiteral orAll or-chain (lives .outs) m (many .2 ∙ e) ∙ out-at 0 (omega arith) ∙ ap orLiteral (omega arith)
   last (suc k) e = all-out orGate orLiteral orAll or-chain (lives .outs) m (omega (arith, many .2)) ∙ ap orLiteral (omega (arith, many .1, many .2))
 
@@ -136,12 +136,12 @@ module _ (g : Graph) where
         );
         alive = alive;
         first-join = λ l.
-            subst (λ (x : ℕ). gateAt xs x ≡ orGate (aliveAt n 0) (aliveAt n 1)) (omega arith)
+            subst (λ (x : ℕ). gateAt xs x ≡ orGate (inverseAt n 0) (inverseAt n 1)) (omega arith)
             (late 0 ∙ all-first orGate orLiteral orAll or-chain (lives .outs) m (omega (arith, many .2)) ∙ ap₂ orGate (out-at 0 (omega arith)) (out-at 1 (omega arith)));
         next-join = λ j l.
-            subst (λ (x : ℕ). gateAt xs (a + t + x) ≡ orGate (aliveAt n (t + j)) (aliveAt n (j + 2))) (omega arith) (
+            subst (λ (x : ℕ). gateAt xs (a + t + x) ≡ orGate (inverseAt n (t + j)) (inverseAt n (j + 2))) (omega arith) (
             late (suc j) ∙ all-next orGate orLiteral orAll or-chain (lives .outs) m j (omega (arith, many .2))
-            ∙ ap₂ orGate (ap orLiteral (omega (arith, many .1))) (out-at (suc (suc j)) (omega arith) ∙ ap (aliveAt n) (omega arith))
+            ∙ ap₂ orGate (ap orLiteral (omega (arith, many .1))) (out-at (suc (suc j)) (omega arith) ∙ ap (inverseAt n) (omega arith))
             );
         last = λ l. last (t - 1) (omega arith);
         none = λ e. none (lives .outs) (many .2 ∙ e);

@@ -5,9 +5,9 @@ use mathlib.Core.Path.{_≡_}
 use mathlib.Core.Bool.{Bool, true, false}
 use mathlib.Core.List.{List, [], _∷_, _++_}
 use lib.ListN.{length, getD}
-use Rattle.netlist.specs.Layout.{outputCount, gateCount, nextAt, outputAt, operandsAt}
+use Rattle.netlist.specs.Layout.{inputCount, latchCount, outputCount, gateCount, nextAt, resetAt, outputAt, operandsAt, latchVariable}
 use Rattle.netlist.specs.Literals.{literalOf}
-use Rattle.assertion.specs.Graph.{Run, signalsFrom, constantsFrom, signal, constant, alike, Edge, Graph, constantBits, isTerminal, operators}
+use Rattle.assertion.specs.Graph.{Run, signalsFrom, constantsFrom, signal, constant, alike, Edge, Graph, signalBits, constantBits, isTerminal, operators}
 use Rattle.circuit.specs.Gates.{lit, inv, Gate, gate, Piece}
 use Rattle.circuit.specs.Build.{Two, bitLiteral, formula, firstGate, judged, accepted, gatesOf}
 use Rattle.circuit.specs.Checked.{gatesWith, outputsWith}
@@ -52,8 +52,8 @@ nowAt g i = getD (judged g .outs) i (record { happy = 0; condemned = 0 })
 
 -- the inverse of gate k, from 0, where n is the variable of the first gate of checked: alive of terminal edge k, and
 -- behind these what is joined
-abbrev pub aliveAt : ℕ → ℕ → ℕ
-aliveAt n k = literalOf (n + k) true
+abbrev pub inverseAt : ℕ → ℕ → ℕ
+inverseAt n k = literalOf (n + k) true
 
 -- of all gates xs, of which those of checked stand behind the first a, with n the variable of the first of these, T
 -- terminal edges and the literal `second`
@@ -64,10 +64,10 @@ pub record CheckedGates (g : Graph) (xs : List Gate) (a n t second : ℕ) : Type
   pub alive : (before after : List Edge) (e : Edge) → g .edges ≡ before ++ (e ∷ after) → isTerminal g e ≡ true
       → gateAt xs (a + terminals g before) ≡ gate (inv (nowAt g (length before) .condemned)) (inv (nowAt g (length before) .happy))
   -- the first two are joined behind all of these; then what is joined and the next
-  pub first-join : 2 ≤ t → gateAt xs (a + t) ≡ gate (inv (aliveAt n 0)) (inv (aliveAt n 1))
-  pub next-join : (j : ℕ) → j + 2 < t → gateAt xs (a + t + (j + 1)) ≡ gate (inv (aliveAt n (t + j))) (inv (aliveAt n (j + 2)))
+  pub first-join : 2 ≤ t → gateAt xs (a + t) ≡ gate (inv (inverseAt n 0)) (inv (inverseAt n 1))
+  pub next-join : (j : ℕ) → j + 2 < t → gateAt xs (a + t + (j + 1)) ≡ gate (inv (inverseAt n (t + j))) (inv (inverseAt n (j + 2)))
   -- checked is the last gate's inverse; of one terminal edge, its alive; "no terminal edge giving 0"
-  pub last : 1 ≤ t → second ≡ aliveAt n (2 * t - 2)
+  pub last : 1 ≤ t → second ≡ inverseAt n (2 * t - 2)
   pub none : t ≡ 0 → second ≡ 0
 
 -- THE CLAIM of gates and outputs: "The gates follow those of accept", and without it they are as before
@@ -82,6 +82,12 @@ pub record CheckedMeans (g : Graph) : Type 0 where
 -- THE CLAIM of the numbers themselves, wherever they stand: they have these outputs and gates and no others, in this
 -- order, and happy-now and condemned-now are what feeds an edge's latches
 pub record NumbersMean (checked : Bool) (g : Graph) (net : List ℕ) : Type 0 where
+  -- "Inputs: init, then signals. Latches: constants in order (next and reset are their own literal), then happy and
+  -- condemned for each edge, reset 0"
+  pub inputs : inputCount net ≡ 1 + signalBits g
+  pub latches : latchCount net ≡ constantBits g + 2 * length (g .edges)
+  pub constants : (j : ℕ) → j < constantBits g → (getD net (nextAt j) 0 ≡ literalOf (latchVariable net j) false) × (getD net (resetAt j) 0 ≡ literalOf (latchVariable net j) false)
+  pub resets : (i : ℕ) → i < 2 * length (g .edges) → getD net (resetAt (constantBits g + i)) 0 ≡ 0
   pub outputs : outputCount net ≡ length (outputsWith checked g)
   pub output : (k : ℕ) → k < length (outputsWith checked g) → getD net (outputAt net k) 0 ≡ getD (outputsWith checked g) k 0
   pub gates : gateCount net ≡ length (gatesWith checked g)

@@ -54,7 +54,3 @@ gateFormula g =
 -- "2T − 1 are added when T is at least 1"; minus stops at 0
 unfoldable pub gateFormulaWith : Bool → Graph → ℕ
 gateFormulaWith checked g = gateFormula g + cond checked (2 * terminals g (g .edges) - 1) 0
-
--- "With it the bound becomes 12 × edges + 3 × operators", without it 10 × edges + 3 × operators
-abbrev pub mostGates : Bool → Graph → ℕ
-mostGates checked g = cond checked 12 10 * length (g .edges) + 3 * allOperators (g .edges)

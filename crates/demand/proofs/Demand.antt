@@ -16,6 +16,7 @@ use Rattle.assertion.specs.Graph.{Edge, Graph, signalBits, constantBits, Cycle}
 use Rattle.assertion.specs.Paths.{verdicts, countRejected, countChecked}
 use Rattle.assertion.proofs.PathLaws.{paths-mean}
 use Rattle.circuit.specs.Checked.{gatesWith}
+use Rattle.circuit.specs.Count.{gateFormulaWith}
 use Rattle.circuit.specs.Numbers.{numbersWith}
 use Rattle.circuit.proofs.Fits.{Fits}
 use Rattle.circuit.proofs.Tokens.{fresh}
@@ -211,6 +212,7 @@ module _ (checked : Bool) (g : Graph) (fits : Fits g) (surplus : List ℕ) where
 -- the monitor's numbers, with any surplus, do what demand 3 asks
 pub demand3 : (checked : Bool) (g : Graph) → Fits g → length (gatesWith checked g) + (1 + signalBits g) + (constantBits g + 2 * length (g .edges)) ≤ 4095
     → (surplus : List ℕ) → Demand3 checked g (numbersWith checked g ++ surplus) (length (gatesWith checked g))
+unfolding gateFormulaWith
 demand3 checked g fits small surplus =
     record {
       netlist = numbers-netlist checked g fits small surplus;

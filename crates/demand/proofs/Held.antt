@@ -15,7 +15,8 @@ use Rattle.netlist.proofs.LaneLaws.{lane-zero}
 use Rattle.netlist.proofs.MeaningLaws.{length-nexts, lane-inputs}
 use Rattle.netlist.proofs.AigerLaws.{means}
 use Rattle.assertion.specs.Graph.{Graph, signalBits, Cycle}
-use Rattle.assertion.specs.Paths.{isRejected, isChecked, bytesOf, verdicts, sum, countRejected, countChecked}
+use Rattle.assertion.specs.Paths.{isRejected, isChecked, verdicts, countRejected, countChecked}
+use Rattle.assertion.proofs.CountLaws.{rejected-more, checked-more}
 use Rattle.circuit.specs.Numbers.{numbersWith}
 use Rattle.circuit.proofs.Fits.{Fits}
 use Rattle.circuit.proofs.Tokens.{Token, rejecting}
@@ -27,28 +28,6 @@ use Rattle.calls.specs.declared.tally.Tally.{Tally}
 use Rattle.calls.specs.Tallies.{counted}
 use Rattle.simulator.specs.Step.{cycleWords, outputWord, checkedWord, latchesAfter}
 use Rattle.simulator.specs.Run.{verdictByte, Running, runCycle, runCycles}
-
--- ---- counting, one cycle more at the end
-bytes-append : (f : List Cycle → Bool) (s a b : List Cycle) → bytesOf f s (a ++ b) ≡ bytesOf f s a ++ bytesOf f (s ++ a) b
-bytes-append f s [] b = rw append-nil
-bytes-append f s (c ∷ a) b =
-    ap (_∷_ (cond (f (s ++ (c ∷ []))) 1 0))
-    (bytes-append f (s ++ (c ∷ [])) a b ∙ ap (λ (l : List Cycle). bytesOf f (s ++ (c ∷ [])) a ++ bytesOf f l b) (append-assoc s (c ∷ []) a))
-
-sum-append : (a b : List ℕ) → sum (a ++ b) ≡ sum a + sum b
-sum-append [] b = omega arith
-sum-append (x ∷ a) b = omega (arith, sum-append a b)
-
-one-byte : (f : List Cycle → Bool) (cs : List Cycle) (c : Cycle) → sum (bytesOf f [] (cs ++ (c ∷ []))) ≡ sum (bytesOf f [] cs) + cond (f (cs ++ (c ∷ []))) 1 0
-one-byte f cs c = omega (arith, ap sum (bytes-append f [] cs (c ∷ [])), sum-append (bytesOf f [] cs) (bytesOf f cs (c ∷ [])))
-
-count-more : (g : Graph) (cs : List Cycle) (c : Cycle) → countRejected g (cs ++ (c ∷ [])) ≡ countRejected g cs + cond (isRejected g (cs ++ (c ∷ []))) 1 0
-unfolding countRejected
-count-more g cs c = one-byte (isRejected g) cs c
-
-checked-more : (g : Graph) (cs : List Cycle) (c : Cycle) → countChecked g (cs ++ (c ∷ [])) ≡ countChecked g cs + cond (isChecked g (cs ++ (c ∷ []))) 1 0
-unfolding countChecked
-checked-more g cs c = one-byte (isChecked g) cs c
 
 pub verdicts-length : (g : Graph) (s cs : List Cycle) → length (verdicts g s cs) ≡ length cs
 verdicts-length g s [] = refl
@@ -166,7 +145,7 @@ module _ (checked : Bool) (g : Graph) (fits : Fits g) (surplus : List ℕ) where
       record {
         lanes-are = next-lane checked g fits surplus seen c latches t whole r;
         cycles-are = omega (arith, r .cycles-are, length-append seen (c ∷ []));
-        rejected-are = omega (arith, r .rejected-are, verdict checked g fits surplus seen c latches t whole r, count-more g seen c);
+        rejected-are = omega (arith, r .rejected-are, verdict checked g fits surplus seen c latches t whole r, rejected-more g seen c);
         checked-are = third-more checked g fits surplus seen c latches t whole r;
       }
 

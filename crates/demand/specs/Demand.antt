@@ -2,7 +2,7 @@
 use mathlib.Core.Path.{_≡_}
 use mathlib.Core.Bool.{Bool, true, cond}
 use mathlib.Core.List.{List, [], _∷_, _++_}
-use Prim.Native.Nat.{ℕ, _+_, _≤_}
+use Prim.Native.Nat.{ℕ, _+_, _-_, _*_, _≤_}
 use lib.ListN.{length, take}
 use Rattle.netlist.specs.Layout.{gateCount}
 use Rattle.netlist.specs.Valid.{isNetlist}
@@ -15,7 +15,7 @@ use Rattle.simulator.specs.declared.outcome.Verdict.the-variants as verdict
 use Rattle.simulator.specs.declared.outcome.RunOutcome.the-variants.{Done}
 use Rattle.simulator.specs.Start.{StartEnd, startOf}
 use Rattle.simulator.specs.Run.{verdictOf}
-use Rattle.circuit.specs.Count.{gateFormulaWith, mostGates}
+use Rattle.circuit.specs.Count.{allOperators, terminals, gateFormula}
 use Rattle.circuit.specs.Claims.{NumbersMean}
 use Rattle.demand.specs.Calls.{Call, stepCall, runCall, Kept, ran, Called, called}
 
@@ -67,8 +67,9 @@ pub record Demand3 (checked : Bool) (g : Graph) (net : List ℕ) (made : ℕ) : 
   pub gates : gateCount net ≡ made
   -- and these are the gates and outputs of which build says where they stand
   pub numbers : NumbersMean checked g net
-  pub formula : made ≡ gateFormulaWith checked g
-  pub bound : made ≤ mostGates checked g
+  -- "2T − 1 are added when T is at least 1"; "With it the bound becomes 12 × edges + 3 × operators"
+  pub formula : made ≡ gateFormula g + cond checked (2 * terminals g (g .edges) - 1) 0
+  pub bound : made ≤ cond checked 12 10 * length (g .edges) + 3 * allOperators (g .edges)
   -- after any accepted start, with any latch buffer and any tally, and any list of calls
   pub counted : (latches : List ℕ) (t : Tally) → startOf net latches t .answer .outcome ≡ Ready
       → (xs : List Call) → Counted checked g net [] (keptBy (startOf net latches t)) xs

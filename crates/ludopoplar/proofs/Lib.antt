@@ -3,4 +3,4 @@ mod NumberLaws
 mod RateLaws
 mod SessionLaws
 mod PageLaws
-mod CheckedLaws
+mod CallLaws

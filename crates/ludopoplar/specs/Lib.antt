@@ -6,5 +6,5 @@ pub mod CheckedRuns
 pub mod Rates
 pub mod Sessions
 pub mod Pages
-pub mod CheckedClaims
+pub mod CallClaims
 pub mod Claims

@@ -3,7 +3,7 @@
 ghost use mathlib.Core.Path.{_≡_};
 ghost use mathlib.Core.Bool.{true};
 ghost use Rattle.ludopoplar.specs.Circuits.{filled, buildCheckedCall};
-ghost use Rattle.ludopoplar.specs.CheckedClaims.{CallBuilds, CallStarts, CallSteps, CallRuns};
+ghost use Rattle.ludopoplar.specs.CallClaims.{CallBuilds, CallAnswers, CallStarts, StartByThree, CallSteps, StepByThree, CallRuns, RunByThree};
 ghost use Rattle.ludopoplar.specs.CheckedRuns.{startCheckedEnd, startCheckedCall, stepCheckedEnd, stepCheckedCall, runCheckedEnd, runCheckedCall};
 use crate::ACCEPTED;
 use crate::code;
@@ -19,6 +19,7 @@ use simulator::StepOutcome;
 pub extern "C" fn ludo_build_checked(graph: &[u8], net: &mut [u16], gates: &mut u64) -> u64
     ensures { λ r. ⌜ filled r (now (net .exit)) (now (gates .exit)) ≡ buildCheckedCall (now (graph .entry)) (now (net .entry)) (now (gates .entry)) ⌝ }
     ensures demand { λ r. ⌜ (r ≡ 0 → CallBuilds true (now (graph .entry)) (now (net .entry)) (now (net .exit)) (now (gates .exit))) ⌝ }
+    ensures answers { λ r. ⌜ CallAnswers true (now (graph .entry)) (now (net .entry)) (now (gates .entry)) (record { code = r; buffer = now (net .exit); result = now (gates .exit) }) ⌝ }
 {
     let built = builder::build(graph, true, net);
     match built {
@@ -42,7 +43,7 @@ pub extern "C" fn ludo_start_checked(
     ensures { λ r. ⌜ startCheckedEnd r (now (latches .exit)) (now (cycles .exit)) (now (rejected .exit)) (now (checked .exit))
         ≡ startCheckedCall (now (net .entry)) (now (latches .entry)) (now (cycles .entry)) (now (rejected .entry)) (now (checked .entry)) ⌝ }
     ensures starts { λ r. ⌜ CallStarts (now (net .entry)) (now (latches .entry)) (record { cycles = now (cycles .entry); rejected = now (rejected .entry); checked = now (checked .entry) })
-        (record { code = r; latches = now (latches .exit); tally = record { cycles = now (cycles .exit); rejected = now (rejected .exit); checked = now (checked .exit) } }) ⌝ }
+        (StartByThree (record { code = r; latches = now (latches .exit); tally = record { cycles = now (cycles .exit); rejected = now (rejected .exit); checked = now (checked .exit) } })) ⌝ }
 {
     let tally = Tally {
         cycles: *cycles,
@@ -76,7 +77,7 @@ pub extern "C" fn ludo_step_checked(
     ensures { λ r. ⌜ stepCheckedEnd r (now (latches .exit)) (now (values .exit)) (now (cycles .exit)) (now (rejected .exit)) (now (checked .exit)) (now (word .exit)) (now («checked_word» .exit))
         ≡ stepCheckedCall (now (net .entry)) (now (cycle .entry)) (now (latches .entry)) (now (values .entry)) (now (cycles .entry)) (now (rejected .entry)) (now (checked .entry)) (now (word .entry)) (now («checked_word» .entry)) ⌝ }
     ensures steps { λ r. ⌜ CallSteps (now (net .entry)) (now (cycle .entry)) (now (latches .entry)) (now (values .entry)) (record { cycles = now (cycles .entry); rejected = now (rejected .entry); checked = now (checked .entry) }) (now (word .entry)) (now («checked_word» .entry))
-        (record { code = r; latches = now (latches .exit); values = now (values .exit); tally = record { cycles = now (cycles .exit); rejected = now (rejected .exit); checked = now (checked .exit) }; word = now (word .exit); second = now («checked_word» .exit) }) ⌝ }
+        (StepByThree (record { code = r; latches = now (latches .exit); values = now (values .exit); tally = record { cycles = now (cycles .exit); rejected = now (rejected .exit); checked = now (checked .exit) }; word = now (word .exit); second = now («checked_word» .exit) })) ⌝ }
 {
     let tally = Tally {
         cycles: *cycles,
@@ -114,7 +115,7 @@ pub extern "C" fn ludo_run_checked(
     ensures { λ r. ⌜ runCheckedEnd r (now (latches .exit)) (now (values .exit)) (now (verdicts .exit)) (now (cycles .exit)) (now (rejected .exit)) (now (checked .exit)) (now (verdict .exit))
         ≡ runCheckedCall (now (net .entry)) (now (trace .entry)) (now (latches .entry)) (now (values .entry)) (now (verdicts .entry)) (now (cycles .entry)) (now (rejected .entry)) (now (checked .entry)) (now (verdict .entry)) ⌝ }
     ensures runs { λ r. ⌜ CallRuns (now (net .entry)) (now (trace .entry)) (now (latches .entry)) (now (values .entry)) (now (verdicts .entry)) (record { cycles = now (cycles .entry); rejected = now (rejected .entry); checked = now (checked .entry) }) (now (verdict .entry))
-        (record { code = r; latches = now (latches .exit); values = now (values .exit); verdicts = now (verdicts .exit); tally = record { cycles = now (cycles .exit); rejected = now (rejected .exit); checked = now (checked .exit) }; verdict = now (verdict .exit) }) ⌝ }
+        (RunByThree (record { code = r; latches = now (latches .exit); values = now (values .exit); verdicts = now (verdicts .exit); tally = record { cycles = now (cycles .exit); rejected = now (rejected .exit); checked = now (checked .exit) }; verdict = now (verdict .exit) })) ⌝ }
 {
     let tally = Tally {
         cycles: *cycles,

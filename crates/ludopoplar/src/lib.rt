@@ -1,15 +1,16 @@
 // The C interface: build, write, read, start, step, run, per million, broken check, broken line and session page as a
 // static library has them; and, in the module checked, build with the second output, start, step and run with the
-// tally's third number. Each function calls the one that it is named after and puts what that answers where C looks for
-// it. It returns 0 where the call is accepted, else number × 2^32 + line; results go through pointers, which a refusal
-// leaves as they were. Computes nothing itself. Exports that code, results, tally and buffers are those that their
-// definitions give; of a rate that its results are those of a division, the clause `divides` of `ludo_per_million`; of
-// a session that was measured twice what a code means and which line it is, the clauses `checks` of `ludo_broken_check`
-// and `first` of `ludo_broken_line`; of a session page what stands in its columns and that it tells graph name and
-// verdict bytes, the clauses `lays` and `tells` of `ludo_session_page`; of a build that returned 0 that its numbers do
-// what demand 3 asks, the clause `demand` of `ludo_build` and `ludo_build_checked`; of start, step and run with checked
-// what an accepted call leaves and what a refused one does, the clauses `starts` of `ludo_start_checked`, `steps` of
-// `ludo_step_checked` and `runs` of `ludo_run_checked`. `include/ludopoplar.h` declares these functions to C.
+// tally's third number. Each function calls the one that it is named after and puts what that answers where C looks
+// for it. It returns 0 where the call is accepted, else number × 2^32 + line; results go through pointers, which a
+// refusal leaves as they were. Computes nothing itself. Exports that code, results, tally and buffers are those that
+// their definitions give; of a rate that its results are those of a division, the clause `divides` of
+// `ludo_per_million`; of a session that was measured twice what a code means and which line it is, the clauses
+// `checks` of `ludo_broken_check` and `first` of `ludo_broken_line`; of a session page what stands in its columns and
+// that it tells graph name and verdict bytes, the clauses `lays` and `tells` of `ludo_session_page`; of a build what
+// it answers and, where that is 0, that its numbers do what demand 3 asks, the clauses `answers` and `demand` of
+// `ludo_build` and `ludo_build_checked`; of start, step and run what an accepted call leaves and what a refused one
+// does, the clauses `starts` of `ludo_start` and `ludo_start_checked`, `steps` of `ludo_step` and `ludo_step_checked`,
+// `runs` of `ludo_run` and `ludo_run_checked`. `include/ludopoplar.h` declares these functions to C.
 mod checked;
 
 use aiger::Written;
@@ -28,7 +29,7 @@ ghost use mathlib.Core.Path.{_≡_};
 ghost use mathlib.Core.Bool.{false};
 ghost use Rattle.ludopoplar.specs.Codes.{codeOf};
 ghost use Rattle.ludopoplar.specs.Circuits.{filled, buildCall, writeCall, readCall};
-ghost use Rattle.ludopoplar.specs.CheckedClaims.{CallBuilds};
+ghost use Rattle.ludopoplar.specs.CallClaims.{CallBuilds, CallAnswers, CallStarts, StartByTwo, CallSteps, StepByTwo, CallRuns, RunByTwo};
 ghost use Rattle.ludopoplar.specs.Claims.{Numbered, CallDivides, CallChecks, CallFinds, CallLays, CallTells};
 ghost use Rattle.ludopoplar.specs.Runs.{verdictNumber, startCallEnd, startCall, stepCallEnd, stepCall, runCallEnd, runCall};
 ghost use Rattle.ludopoplar.specs.Rates.{rateCallEnd, rateCall};
@@ -63,6 +64,7 @@ fn verdict_number(verdict: Verdict) -> u64
 pub extern "C" fn ludo_build(graph: &[u8], net: &mut [u16], gates: &mut u64) -> u64
     ensures { λ r. ⌜ filled r (now (net .exit)) (now (gates .exit)) ≡ buildCall (now (graph .entry)) (now (net .entry)) (now (gates .entry)) ⌝ }
     ensures demand { λ r. ⌜ (r ≡ 0 → CallBuilds false (now (graph .entry)) (now (net .entry)) (now (net .exit)) (now (gates .exit))) ⌝ }
+    ensures answers { λ r. ⌜ CallAnswers false (now (graph .entry)) (now (net .entry)) (now (gates .entry)) (record { code = r; buffer = now (net .exit); result = now (gates .exit) }) ⌝ }
     ensures numbered { λ _. ⌜ Numbered ⌝ }
 {
     let built = builder::build(graph, false, net);
@@ -114,6 +116,8 @@ pub extern "C" fn ludo_start(
     rejected: &mut u32,
 ) -> u64
     ensures { λ r. ⌜ startCallEnd r (now (latches .exit)) (now (cycles .exit)) (now (rejected .exit)) ≡ startCall (now (net .entry)) (now (latches .entry)) (now (cycles .entry)) (now (rejected .entry)) ⌝ }
+    ensures starts { λ r. ⌜ CallStarts (now (net .entry)) (now (latches .entry)) (record { cycles = now (cycles .entry); rejected = now (rejected .entry); checked = 0 })
+        (StartByTwo (record { code = r; latches = now (latches .exit); cycles = now (cycles .exit); rejected = now (rejected .exit) })) ⌝ }
 {
     let tally = Tally {
         cycles: *cycles,
@@ -143,6 +147,8 @@ pub extern "C" fn ludo_step(
 ) -> u64
     ensures { λ r. ⌜ stepCallEnd r (now (latches .exit)) (now (values .exit)) (now (cycles .exit)) (now (rejected .exit)) (now (word .exit))
         ≡ stepCall (now (net .entry)) (now (cycle .entry)) (now (latches .entry)) (now (values .entry)) (now (cycles .entry)) (now (rejected .entry)) (now (word .entry)) ⌝ }
+    ensures steps { λ r. ⌜ CallSteps (now (net .entry)) (now (cycle .entry)) (now (latches .entry)) (now (values .entry)) (record { cycles = now (cycles .entry); rejected = now (rejected .entry); checked = 0 }) (now (word .entry)) 0
+        (StepByTwo (record { code = r; latches = now (latches .exit); values = now (values .exit); cycles = now (cycles .exit); rejected = now (rejected .exit); word = now (word .exit) })) ⌝ }
 {
     let tally = Tally {
         cycles: *cycles,
@@ -176,6 +182,8 @@ pub extern "C" fn ludo_run(
 ) -> u64
     ensures { λ r. ⌜ runCallEnd r (now (latches .exit)) (now (values .exit)) (now (verdicts .exit)) (now (cycles .exit)) (now (rejected .exit)) (now (verdict .exit))
         ≡ runCall (now (net .entry)) (now (trace .entry)) (now (latches .entry)) (now (values .entry)) (now (verdicts .entry)) (now (cycles .entry)) (now (rejected .entry)) (now (verdict .entry)) ⌝ }
+    ensures runs { λ r. ⌜ CallRuns (now (net .entry)) (now (trace .entry)) (now (latches .entry)) (now (values .entry)) (now (verdicts .entry)) (record { cycles = now (cycles .entry); rejected = now (rejected .entry); checked = 0 }) (now (verdict .entry))
+        (RunByTwo (record { code = r; latches = now (latches .exit); values = now (values .exit); verdicts = now (verdicts .exit); cycles = now (cycles .exit); rejected = now (rejected .exit); verdict = now (verdict .exit) })) ⌝ }
 {
     let tally = Tally {
         cycles: *cycles,

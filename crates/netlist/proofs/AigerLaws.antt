@@ -2,8 +2,9 @@
 use mathlib.Core.Path.{_≡_, refl, sym, ap, ap₂, _∙_}
 use mathlib.Core.Bool.{Bool, true, false, _&&_}
 use mathlib.Core.List.{List, [], _∷_, _++_}
-use Prim.Native.Nat.{ℕ, zero, suc, _+_, _*_, _<_}
+use Prim.Native.Nat.{ℕ, zero, suc, _+_, _*_, _<_, _≤_}
 use native.Mathlib.Omega.{arith}
+use borrow.Author.Tests.{eq-eqb, le-leb}
 use lib.ListN.{length, getD, length-append, List·getD-append}
 use lib.Seq.{getD-append-add, ext-getD}
 use borrow.Author.Count.{below-more}
@@ -11,6 +12,7 @@ use Rattle.netlist.specs.Layout.{inputCount, latchCount, gateCount, oper
 use Rattle.netlist.specs.Literals.{variableOf}
 use Rattle.netlist.specs.Lanes.{lane}
 use Rattle.netlist.specs.Meaning.{bools, words, litOf, gateOf, gatesOf, front, valuesOf}
+use Rattle.netlist.specs.Valid.{headerOk}
 use Rattle.netlist.specs.Aiger.{Satisfies, OneLane, Means}
 use Rattle.netlist.proofs.ValidLaws.{Valid, valid}
 use Rattle.netlist.proofs.MeaningLaws.{lit-same, length-values, gates-front, gates-at, lane-hom, values-hom, next-hom, output-hom}
@@ -117,6 +119,11 @@ module _ (net : List ℕ) (ok : Valid net) (ins latches : List Bool) (hi : lengt
   one-lane : OneLane net ins latches
   one-lane = record { satisfies = satisfies; only = λ v s. same net ok ins latches v W s satisfies }
 
+-- a header within the limits
+header-ok : (m i l o a : ℕ) → m ≡ i + l + a → m ≤ 4095 → 1 ≤ i → i ≤ 64 → 1 ≤ o → o ≤ 2 → headerOk m i l o a ≡ true
+unfolding headerOk
+header-ok m i l o a e h1 h2 h3 h4 h5 = rw (eq-eqb _ _ e, le-leb _ _ h1, le-leb _ _ h2, le-leb _ _ h3, le-leb _ _ h4, le-leb _ _ h5)
+
 -- THE MEANING holds of every list of numbers
 pub means : (net : List ℕ) → Means net
 means net =
@@ -129,4 +136,5 @@ means net =
           };
       aiger = λ e ins latches hi hl. one-lane net (valid net e) ins latches hi hl;
       outputs = λ e. (valid net e .output, valid net e .most);
+      either = header-ok;
     }

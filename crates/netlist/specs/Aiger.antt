@@ -8,7 +8,7 @@ use lib.ListN.{length, getD}
 use Rattle.netlist.specs.Layout.{maximum, inputCount, latchCount, outputCount, gateCount, operandsAt, inputVariable, latchVariable, gateVariable}
 use Rattle.netlist.specs.Lanes.{lane}
 use Rattle.netlist.specs.Meaning.{bools, words, litOf, valuesOf, nextOf, outputOf}
-use Rattle.netlist.specs.Valid.{isNetlist}
+use Rattle.netlist.specs.Valid.{headerOk, isNetlist}
 
 -- v values the variables 0 to M as AIGER asks: variable 0 is false, inputs and latches have the values
 -- given, and each gate is the AND of its two operand literals
@@ -38,3 +38,5 @@ pub record Means (net : List ℕ) : Type 0 where
   pub aiger : isNetlist net ≡ true → (ins latches : List Bool) → length ins ≡ inputCount net → length latches ≡ latchCount net → OneLane net ins latches
   -- document 02, No. 7: "O may be 1 or 2"
   pub outputs : isNetlist net ≡ true → (1 ≤ outputCount net) × (outputCount net ≤ 2)
+  -- either, wherever the other numbers of the header are within their limits
+  pub either : (m i l o a : ℕ) → m ≡ i + l + a → m ≤ 4095 → 1 ≤ i → i ≤ 64 → 1 ≤ o → o ≤ 2 → headerOk m i l o a ≡ true

@@ -14,7 +14,7 @@ use Rattle.trace.specs.Traces.{isCycle, cyclesOf}
 use Rattle.trace.specs.Claims.{Cycles}
 use Rattle.calls.specs.Refusals.{stepCheck}
 use Rattle.simulator.specs.Step.{StepEnd, outputWord, checkedWord}
-use Rattle.simulator.specs.Run.{Running, running, runCycle, runCycles}
+use Rattle.simulator.specs.Run.{Running, running, runCycle, runCycles, ranTo}
 use Rattle.simulator.specs.Claims.{Steps, went, afterStep, oneMore, steps, RunIsSteps}
 use Rattle.calls.proofs.TallyLaws.{room-one, room-next}
 use Rattle.trace.proofs.TraceLaws.{cycle-length, length-cycles}
@@ -57,6 +57,7 @@ module _ (net : List ℕ) (v : isNetlist net ≡ true) where
 
 -- no step of a run that is not refused is refused, and the run answers and leaves what its steps do
 pub run-is-steps : (net trace latches values verdicts : List ℕ) (t : Tally) → RunIsSteps net trace latches values verdicts t
+unfolding ranTo
 run-is-steps net trace latches values verdicts t e =
     let p = run-passed net trace (length latches) (length values) (length verdicts) t e in
     let cs = cyclesOf (inputCount net) trace in

@@ -1,33 +1,32 @@
--- A run and its trace: one too long is refused before all else, a wrong line is told, a line told is the first wrong one, and the
--- tally has room for its lines or the run is refused for it. Assumes nothing.
+-- A run and its trace: it is refused where a test fails, a line told is the first wrong one, and the tally has room for its
+-- lines or the run is refused for it. Assumes nothing.
 use mathlib.Core.Path.{_≡_, refl, sym, ap, _∙_}
-use mathlib.Core.List.{List}
-use mathlib.Core.Bool.{true, true≢false}
-use Prim.Native.Nat.{ℕ, suc, _-_, _<_, _≤_}
+use mathlib.Core.List.{List, []}
+use mathlib.Core.Bool.{true≢false}
+use Prim.Native.Nat.{ℕ, suc, _-_}
 use native.Mathlib.Omega.{arith}
-use borrow.Author.Tests.{le-leb, ne-eqb}
 use lib.ListN.{length}
 use Rattle.netlist.specs.Layout.{inputCount}
-use Rattle.netlist.specs.Valid.{isNetlist}
 use Rattle.calls.specs.declared.refusal.Cause.{Cause}
-use Rattle.calls.specs.declared.refusal.Cause.the-variants.{TraceTooLong, WrongLine, NotNetlist, FullTally}
+use Rattle.calls.specs.declared.refusal.Cause.the-variants.{WrongLine, NotNetlist, FullTally}
 use Rattle.calls.specs.declared.refusal.Tested.{Tested}
 use Rattle.calls.specs.declared.refusal.Tested.the-variants.{Passed, Failed}
 use Rattle.calls.specs.declared.tally.Tally.{Tally}
 use Rattle.calls.specs.Tallies.{Fits}
-use Rattle.calls.specs.Refusals.{isShort, runCheck}
-use Rattle.trace.specs.Traces.{faultOf, cyclesOf}
+use Rattle.calls.specs.Refusals.{runCheck}
+use Rattle.trace.specs.Traces.{cyclesOf}
 use Rattle.trace.specs.Claims.{FirstWrong}
 use Rattle.trace.proofs.TraceLaws.{length-cycles}
 use Rattle.trace.proofs.LineLaws.{trace-means}
 use Rattle.calls.proofs.TallyLaws.{room-fits, fits-room}
-use Rattle.calls.proofs.RefusalLaws.{run-passed, run-too-long, run-wrong-line, run-full}
+use Rattle.calls.proofs.RefusalLaws.{run-passed, run-wrong-line, run-full}
+use Rattle.calls.proofs.ClaimLaws.{run-tested}
 use Rattle.simulator.specs.declared.outcome.Verdict.{Verdict}
 use Rattle.simulator.specs.declared.outcome.RunOutcome.{RunOutcome}
 use Rattle.simulator.specs.declared.outcome.RunOutcome.the-variants.{Done, Refused}
-use Rattle.simulator.specs.Run.{RunEnd, runEnd, ranTo, runAs, runOf}
+use Rattle.simulator.specs.Run.{verdictOf, running, runCycles, RunEnd, runEnd, ranTo, runAs, runOf}
 use Rattle.simulator.specs.Claims.{TraceOfRun}
-use Rattle.simulator.proofs.RunLaws.{run-refused}
+use Rattle.simulator.proofs.RunLaws.{run-refused, run-is}
 
 -- the cause of a refusal
 unfoldable causeIn : RunOutcome → Cause
@@ -43,19 +42,6 @@ module _ (net trace latches values verdicts : List ℕ) (t : Tally) where
 
   abbrev refusedAs : Cause → RunEnd
   refusedAs cause = runEnd (record { outcome = Refused cause; tally = t }) latches values verdicts
-
-  too-long : 1048576 < length trace → runOf net trace latches values verdicts t ≡ refusedAs TraceTooLong
-  too-long h =
-      let e = run-too-long net trace (length latches) (length values) (length verdicts) t h in
-      sym (run-refused net trace latches values verdicts t check TraceTooLong refl e)
-
-  wrong-check : (j : ℕ) → length trace ≤ 1048576 → isNetlist net ≡ true → faultOf (inputCount net) trace ≡ suc j → check ≡ Failed (WrongLine (suc j))
-  unfolding runCheck isShort
-  wrong-check j h n e = rw (le-leb (length trace) 1048576 h, n, e, ne-eqb (suc j) 0 (λ z. omega arith))
-
-  wrong-line : (j : ℕ) → length trace ≤ 1048576 → isNetlist net ≡ true → faultOf (inputCount net) trace ≡ suc j
-      → runOf net trace latches values verdicts t ≡ refusedAs (WrongLine (suc j))
-  wrong-line j h n e = sym (run-refused net trace latches values verdicts t check (WrongLine (suc j)) refl (wrong-check j h n e))
 
   -- a refusal of the run is one of its tests
   told-by : (c : Tested) (cause : Cause) → runAs c net trace latches values verdicts t .answer .outcome ≡ Refused cause → c ≡ Failed cause
@@ -93,5 +79,17 @@ module _ (net trace latches values verdicts : List ℕ) (t : Tally) where
   unfolding runOf
   kept-as cause e = sym (run-refused net trace latches values verdicts t check cause refl (told-by check cause e))
 
+  done : check ≡ Passed → outcome ≡ Done (verdictOf (runCycles net (running latches values [] t) (cyclesOf (inputCount net) trace) .bytes))
+  unfolding ranTo
+  done e = ap (λ (x : RunEnd). x .answer .outcome) (run-is net trace latches values verdicts t e)
+
   pub trace-of-run : TraceOfRun net trace latches values verdicts t
-  trace-of-run = record { means = trace-means (inputCount net) trace; long = too-long; wrong = wrong-line; line = first-wrong; guarded = fits; full = fits-not; kept = kept-as }
+  trace-of-run =
+      record {
+        means = trace-means (inputCount net) trace;
+        line = first-wrong;
+        guarded = fits;
+        full = fits-not;
+        tests = run-tested _ _ net trace (length latches) (length values) (length verdicts) t (λ e. (_, done e)) (λ cause e. (sym (ap (λ (x : RunEnd). x .answer .outcome) (run-refused net trace latches values verdicts t check cause refl e)), refl));
+        kept = kept-as;
+      }

@@ -25,6 +25,7 @@ use Rattle.calls.specs.declared.tally.Tally.{Tally}
 use Rattle.calls.specs.Tallies.{cleared}
 use Rattle.calls.specs.Refusals.{startCheck}
 use Rattle.calls.proofs.RefusalLaws.{start-passed}
+use Rattle.calls.proofs.ClaimLaws.{start-tested}
 use Rattle.simulator.specs.Start.{startBit, startWords, StartEnd, startEnd, startAs, startOf}
 use Rattle.simulator.specs.Claims.{freeWord, WordsOfStart, StartMeans}
 use Rattle.simulator.proofs.CycleLaws.{grow}
@@ -197,7 +198,16 @@ module _ (net latches : List ℕ) (t : Tally) where
   -- the words of the uninitialised latches are those that the formula gives
   pub start-computed : WordsOfStart net latches t
   unfolding startOf
-  start-computed = record { lanes = free-word; free = words-free; clears = λ e. sym (ap (λ (x : StartEnd). x .answer .tally) (start-is e)); kept = kept-as (startCheck net (length latches)) }
+  start-computed =
+      record {
+        lanes = free-word;
+        free = words-free;
+        clears = λ e. sym (ap (λ (x : StartEnd). x .answer .tally) (start-is e));
+        kept = kept-as (startCheck net (length latches));
+        tests = start-tested _ _ net (length latches)
+            (λ e. sym (ap (λ (x : StartEnd). x .answer .outcome) (start-is e)))
+            (λ cause e. (sym (ap (λ (x : StartEnd). x .answer .outcome) (start-refused _ cause refl e)), refl));
+      }
     where
       words-free : startCheck net (length latches) ≡ Passed → (k : ℕ) → k < latchCount net → isFree net k ≡ true
           → (freeCount net k < 6) × (getD (startOf net latches t .latches) k 0 ≡ freeWord (freeCount net k))

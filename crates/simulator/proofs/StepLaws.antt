@@ -26,6 +26,7 @@ use Rattle.simulator.specs.Claims.{LaneOfStep, StepMeans, StepCounts}
 use Rattle.trace.proofs.TraceLaws.{cycle-length}
 use Rattle.calls.proofs.TallyLaws.{room-fits, fits-room, cycle-more}
 use Rattle.calls.proofs.RefusalLaws.{StepReady, step-passed, step-full}
+use Rattle.calls.proofs.ClaimLaws.{step-tested}
 use Rattle.simulator.proofs.CycleLaws.{length-words}
 
 module _ (net cycle latches values : List ℕ) (t : Tally) where
@@ -116,7 +117,7 @@ module _ (net cycle latches values : List ℕ) (t : Tally) where
   unfolding checkedWord
   none o = rw o
 
-  counts-as : (k : Tested) → stepCheck net cycle (length latches) (length values) t ≡ k → StepCounts net latches values t (stepAs k net cycle latches values t)
+  counts-as : (k : Tested) → stepCheck net cycle (length latches) (length values) t ≡ k → StepCounts net cycle latches values t (stepAs k net cycle latches values t)
   unfolding stepAs
   counts-as Passed is =
       let ow = outputWord net cycle latches in
@@ -127,6 +128,7 @@ module _ (net cycle latches values : List ℕ) (t : Tally) where
         one-output = λ w c e o. let ec : cw ≡ c = cc in (sym ec ∙ none o, more .unchecked (λ n l. ap (lane n) (none o) ∙ lane-zero n));
         guarded = λ w c e. room-fits t 1 (step-passed net cycle (length latches) (length values) t _ (sym is) refl .room);
         full = λ e. let z : _≡_ {A = ℕ} 0 1 = cc in absurd (omega arith);
+        tests = step-tested _ _ net cycle (length latches) (length values) t (λ _. (ow, cw, refl)) (λ cause e. let z : _≡_ {A = ℕ} 0 1 = cc in absurd (omega arith));
         kept = λ cause e. let z : _≡_ {A = ℕ} 0 1 = cc in absurd (omega arith);
       }
   counts-as (Failed cause) is =
@@ -137,10 +139,11 @@ module _ (net cycle latches values : List ℕ) (t : Tally) where
         full = λ e f.
             let k : cause ≡ FullTally = cc in
             true≢false (sym (fits-room t 1 f) ∙ step-full net cycle (length latches) (length values) t (is ∙ ap Failed k));
-        kept = λ other e. let k : cause ≡ other = cc in rw k refl;
+        tests = step-tested _ _ net cycle (length latches) (length values) t (λ e. let z : _≡_ {A = ℕ} 0 1 = cc in absurd (omega arith)) (λ told e. let k : cause ≡ told = cc in (ap Refused k, refl));
+        kept = λ told e. let k : cause ≡ told = cc in rw k refl;
       }
 
   -- of an end that is what the definition gives
-  pub step-counts : (end : StepEnd) → end ≡ stepOf net cycle latches values t → StepCounts net latches values t end
+  pub step-counts : (end : StepEnd) → end ≡ stepOf net cycle latches values t → StepCounts net cycle latches values t end
   unfolding stepOf
   step-counts end e = rw e (counts-as (stepCheck net cycle (length latches) (length values) t) refl)

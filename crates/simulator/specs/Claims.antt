@@ -2,15 +2,15 @@
 use mathlib.Core.Path.{_≡_}
 use mathlib.Core.Bool.{Bool, true, false}
 use mathlib.Core.List.{List, [], _∷_, _++_, map}
-use Prim.Native.Nat.{ℕ, suc, _+_, _-_, _/_, _^_, _<_, _≤_}
-use lib.ListN.{length, getD, take}
+use Prim.Native.Nat.{ℕ, suc, _+_, _-_, _/_, _^_, _<_}
+use lib.ListN.{length, getD, take, drop}
 use Rattle.netlist.specs.Layout.{maximum, inputCount, latchCount, outputCount, nextAt, resetAt, outputAt}
 use Rattle.netlist.specs.Lanes.{lane, wordOf}
 use Rattle.netlist.specs.Meaning.{bools, words, bitOf, litOf}
 use Rattle.netlist.specs.Aiger.{Satisfies}
-use Rattle.netlist.specs.Valid.{isFree, freeCount, isNetlist}
+use Rattle.netlist.specs.Valid.{isFree, freeCount}
 use Rattle.calls.specs.declared.refusal.Cause.{Cause}
-use Rattle.calls.specs.declared.refusal.Cause.the-variants.{TraceTooLong, WrongLine, FullTally}
+use Rattle.calls.specs.declared.refusal.Cause.the-variants.{WrongLine, FullTally}
 use Rattle.calls.specs.declared.refusal.Tested.the-variants.{Passed}
 use Rattle.simulator.specs.declared.outcome.StartOutcome.the-variants as start
 use Rattle.simulator.specs.declared.outcome.StepOutcome.{StepOutcome}
@@ -20,12 +20,13 @@ use Rattle.simulator.specs.declared.outcome.Verdict.the-variants.{Reject
 use Rattle.simulator.specs.declared.outcome.RunOutcome.the-variants as run
 use Rattle.calls.specs.declared.tally.Tally.{Tally}
 use Rattle.calls.specs.Tallies.{CycleMore, Fits}
-use Rattle.trace.specs.Traces.{faultOf, cyclesOf}
+use Rattle.trace.specs.Traces.{cyclesOf}
 use Rattle.trace.specs.Claims.{FirstWrong, TraceMeans}
-use Rattle.calls.specs.Refusals.{startCheck, stepCheck, runCheck}
+use Rattle.calls.specs.Refusals.{refusalOf, startCheck, stepCheck, runCheck}
+use Rattle.calls.specs.Claims.{StartTested, StepTested, RunTested}
 use Rattle.simulator.specs.Start.{startEnd, startOf}
 use Rattle.simulator.specs.Step.{StepEnd, stepEnd, stepOf}
-use Rattle.simulator.specs.Run.{Running, running, verdictByte, RunEnd, runEnd, ranTo, runOf}
+use Rattle.simulator.specs.Run.{Running, running, verdictByte, verdictOf, RunEnd, runEnd, runOf}
 
 -- ---- start: what lane n of latch k's word is after a start that is not refused
 pub record LaneOfStart (n k : ℕ) (net : List ℕ) (word : ℕ) : Type 0 where
@@ -54,6 +55,8 @@ pub record WordsOfStart (net latches : List ℕ) (t : Tally) : Type 0 where
   pub clears : startCheck net (length latches) ≡ Passed → startOf net latches t .answer .tally ≡ record { cycles = 0; rejected = 0; checked = 0 }
   pub kept : (cause : Cause) → startOf net latches t .answer .outcome ≡ start.Refused cause
       → startOf net latches t ≡ startEnd (record { outcome = start.Refused cause; tally = t }) latches
+  -- which starts are refused, and for what
+  pub tests : StartTested net (length latches) (startOf net latches t .answer .outcome ≡ start.Ready) (λ cause number line. (startOf net latches t .answer .outcome ≡ start.Refused cause) × (refusalOf cause ≡ record { number = number; line = line }))
 
 -- ---- step: what lane n of a step that is not refused shows
 -- lane n of the latches before it, and of the values that it leaves
@@ -81,27 +84,26 @@ StepMeans net cycle latches values t =
     stepCheck net cycle (length latches) (length values) t ≡ Passed → (n : ℕ) → n < 64
     → LaneOfStep n net cycle latches (stepOf net cycle latches values t)
 
--- ---- step: what it adds to the tally, when that is full, and that a refusal changes nothing
-pub record StepCounts (net latches values : List ℕ) (t : Tally) (end : StepEnd) : Type 0 where
+-- ---- step: what it adds to the tally, when that is full, what else it is refused for, and that a refusal changes nothing
+pub record StepCounts (net cycle latches values : List ℕ) (t : Tally) (end : StepEnd) : Type 0 where
   -- an accepted step counts its cycle by the words that it answers
   pub counts : (w c : ℕ) → end .answer .outcome ≡ Output w c → CycleMore t w c (end .answer .tally)
   -- "the second 0 when O = 1", and "with O = 1 the third number does not move"
   pub one-output : (w c : ℕ) → end .answer .outcome ≡ Output w c → outputCount net ≡ 1 → (c ≡ 0) × (end .answer .tally .checked ≡ t .checked)
-  -- 17 guards all three numbers, with one output too, and nothing else
+  -- 17 guards all three numbers, with one output too
   pub guarded : (w c : ℕ) → end .answer .outcome ≡ Output w c → Fits t 1
   pub full : end .answer .outcome ≡ Refused FullTally → Fits t 1 → ⊥
+  pub tests : StepTested net cycle (length latches) (length values) t ((w : ℕ) × (c : ℕ) × (end .answer .outcome ≡ Output w c)) (λ cause number line. (end .answer .outcome ≡ Refused cause) × (refusalOf cause ≡ record { number = number; line = line }))
   pub kept : (cause : Cause) → end .answer .outcome ≡ Refused cause → end ≡ stepEnd (record { outcome = Refused cause; tally = t }) latches values
 
--- ---- run: what its trace is, and when it is refused for it
+-- ---- run: what its trace is, and what it is refused for
 pub record TraceOfRun (net trace latches values verdicts : List ℕ) (t : Tally) : Type 0 where
   -- the trace is the lines of its cycles, or a line of it is wrong
   pub means : TraceMeans (inputCount net) trace
-  -- a trace over 1,048,576 bytes is refused as that, whatever else was lent, and all stays as it was
-  pub long : 1048576 < length trace
-      → runOf net trace latches values verdicts t ≡ runEnd (record { outcome = run.Refused TraceTooLong; tally = t }) latches values verdicts
-  -- a wrong line of any other trace, on a netlist, is told before the buffers and the tally are looked at
-  pub wrong : (j : ℕ) → length trace ≤ 1048576 → isNetlist net ≡ true → faultOf (inputCount net) trace ≡ suc j
-      → runOf net trace latches values verdicts t ≡ runEnd (record { outcome = run.Refused (WrongLine (suc j)); tally = t }) latches values verdicts
+  -- which runs are refused, and for what: a trace over 1,048,576 bytes whatever else was lent, a wrong line before the
+  -- buffers and the tally are looked at
+  pub tests : RunTested net trace (length latches) (length values) (length verdicts) t ((v : Verdict) × (runOf net trace latches values verdicts t .answer .outcome ≡ run.Done v))
+      (λ cause number line. (runOf net trace latches values verdicts t .answer .outcome ≡ run.Refused cause) × (refusalOf cause ≡ record { number = number; line = line }))
   -- a refusal that tells a line, from 1, tells the first wrong one
   pub line : (k : ℕ) → runOf net trace latches values verdicts t .answer .outcome ≡ run.Refused (WrongLine k)
       → (j : ℕ) × (k ≡ suc j) × FirstWrong (inputCount net) j trace
@@ -137,7 +139,8 @@ steps net s (c ∷ cs) = steps net (oneMore net c s) cs
 pub record StepsOfRun (net trace latches values verdicts : List ℕ) (t : Tally) : Type 0 where
   pub last : Running
   pub stepped : steps net (went (running latches values [] t)) (cyclesOf (inputCount net) trace) ≡ went last
-  pub ended : runOf net trace latches values verdicts t ≡ ranTo last verdicts
+  pub ended : runOf net trace latches values verdicts t
+      ≡ runEnd (record { outcome = run.Done (verdictOf (last .bytes)); tally = last .tally }) (last .latches) (last .values) (last .bytes ++ drop (length (last .bytes)) verdicts)
 
 abbrev pub RunIsSteps : List ℕ → List ℕ → List ℕ → List ℕ → List ℕ → Tally → Type 0
 RunIsSteps net trace latches values verdicts t =

@@ -71,7 +71,7 @@ pub fn step(
 ) -> Stepped
     ensures { λ r. ⌜ stepEnd r (now (latches .exit)) (now (values .exit)) ≡ stepOf (now (net .entry)) (now (cycle .entry)) (now (latches .entry)) (now (values .entry)) tally ⌝ }
     ensures aiger { λ _. ⌜ StepMeans (now (net .entry)) (now (cycle .entry)) (now (latches .entry)) (now (values .entry)) tally ⌝ }
-    ensures counts { λ r. ⌜ StepCounts (now (net .entry)) (now (latches .entry)) (now (values .entry)) tally (stepEnd r (now (latches .exit)) (now (values .exit))) ⌝ }
+    ensures counts { λ r. ⌜ StepCounts (now (net .entry)) (now (cycle .entry)) (now (latches .entry)) (now (values .entry)) tally (stepEnd r (now (latches .exit)) (now (values .exit))) ⌝ }
 {
     let tested = step_check(net, cycle, latches.len(), values.len(), tally);
     match tested {

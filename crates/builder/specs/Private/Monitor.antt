@@ -75,9 +75,9 @@ abbrev pub outputsOf : Bool → ℕ → ℕ → List ℕ
 outputsOf true accept second = accept ∷ second ∷ []
 outputsOf false accept second = accept ∷ []
 
-abbrev pub outputCount : Bool → ℕ
-outputCount true = 2
-outputCount false = 1
+abbrev pub outputsAsked : Bool → ℕ
+outputsAsked true = 2
+outputsAsked false = 1
 
 -- the header, and all that stands in front of the gates; hs and ds are the edges' literals
 abbrev pub headerOf : ℕ → ℕ → ℕ → ℕ → List ℕ
@@ -85,7 +85,7 @@ headerOf inputs latches outputs gates = (inputs + latches + gates) ∷ inputs �
 
 unfoldable pub frontOf : Bool → ℕ → ℕ → ℕ → ℕ → List ℕ → List ℕ → ℕ → ℕ → List ℕ
 frontOf checked signals constants edges gates hs ds accept second =
-    headerOf (1 + signals) (constants + 2 * edges) (outputCount checked) gates
+    headerOf (1 + signals) (constants + 2 * edges) (outputsAsked checked) gates
     ++ (constantLatches (2 + signals) constants ++ (edgePairs hs ds ++ outputsOf checked accept second))
 
 -- ---- of a checked graph: the variables of the first edge's happy latch and of the first gate, the gates,

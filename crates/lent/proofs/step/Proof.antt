@@ -195,7 +195,7 @@ module _ {M : Type 1} (𝓤 : URA M) (H : Heap 𝓤) (A : Atoms 𝓤) (W : Given
         move ! (7 ∷ 5 ∷ 1 ∷ []) $ use3 W (raw (Callee 𝓤 H A at-mem run .pre to)) goes-to $
         calls-at ! fm (Callee 𝓤 H A at-mem run) known to (and-then ! (load ! (from ! (stop !)) (look ! 26 refl)) (and-then ! (load ! (from ! (stop !)) (look ! 24 refl)) (and-then ! (load ! (from ! (stop !)) (look ! 10 refl)) (and-then ! (load ! (from ! (stop !)) (look ! 6 refl)) (and-then ! (load ! (from ! (stop !)) (look ! 16 refl)) (no-more !)))))) (λ w.
         use1 W (later (some (λ (r : Stepped). (Toks ⊛ ‵ (S.the-row .own r (w ∷ []))) ⊛ raw (ensured 𝓤 H A callee.ended (callee.clauses 𝓤 H A at-mem run) (κ0, (κ1, (κ2, (κ3, tt)))) (x0, (x1, (x2, (x3, (h, tt))))) tt r)))) (id⊢ 𝓤 _) $ await ! tt $ pick ! (λ r.
-        split ! $ move ! (1 ∷ []) $ use1 W (some (λ (zs : Unit {0} × (Unit {0} × (List ℕ × (List ℕ × (Unit {0} × Unit {0}))))). ‵ (lasts callee.ended (κ0, (κ1, (κ2, (κ3, tt)))) (x0, (x1, (x2, (x3, (h, tt))))) zs) ⊛ raw (fact 𝓤 (Said r (zs .1 .1 .0) (zs .1 .1 .1 .0))) ⊛ raw (fact 𝓤 (StepMeans (x0 .now) (x1 .now) (x2 .now) (x3 .now) h)) ⊛ raw (fact 𝓤 (StepCounts (x0 .now) (x2 .now) (x3 .now) h (stepEnd r (zs .1 .1 .0) (zs .1 .1 .1 .0)))))) (id⊢ 𝓤 _) $ pick ! (λ zs.
+        split ! $ move ! (1 ∷ []) $ use1 W (some (λ (zs : Unit {0} × (Unit {0} × (List ℕ × (List ℕ × (Unit {0} × Unit {0}))))). ‵ (lasts callee.ended (κ0, (κ1, (κ2, (κ3, tt)))) (x0, (x1, (x2, (x3, (h, tt))))) zs) ⊛ raw (fact 𝓤 (Said r (zs .1 .1 .0) (zs .1 .1 .1 .0))) ⊛ raw (fact 𝓤 (StepMeans (x0 .now) (x1 .now) (x2 .now) (x3 .now) h)) ⊛ raw (fact 𝓤 (StepCounts (x0 .now) (x1 .now) (x2 .now) (x3 .now) h (stepEnd r (zs .1 .1 .0) (zs .1 .1 .1 .0)))))) (id⊢ 𝓤 _) $ pick ! (λ zs.
         split ! $ move ! (1 ∷ []) $ split ! $ heard ! (Said r (zs .1 .1 .0) (zs .1 .1 .1 .0)) (λ e. drop ! $ fsplit ! $ move ! (1 ∷ []) $ fsplit ! $ move ! (1 ∷ []) $ fsplit ! $ move ! (1 ∷ []) $ fsplit ! $
         -- [of the last slice; of the tally; of the others, the last first; the tokens and the answer; …]
         fsplit ! $ move ! (1 ∷ []) $ feqL ! (λ e1. move ! (2 ∷ []) $ fsplit ! $ move ! (1 ∷ []) $ feqL ! (λ e0.

@@ -1,6 +1,7 @@
 -- `ludo_run` meets its contract: `run` answers what `runOf` gives, the tally too, and each case of the outcome fixes
 -- code and verdict. Assumes nothing.
 use Rattle.ludopoplar.specs.Runs.{runCode, verdictAfter, runCall}
+use Rattle.ludopoplar.proofs.CallLaws.{runs}
 use Rattle.ludopoplar.proofs.ludo_run.Statement.{statement}
 use Rattle.ludopoplar.proofs.ludo_run.Tie as tie
 
@@ -35,8 +36,11 @@ returns : tie.Need-returns
 unfolding runCall runCode verdictAfter
 returns c =
     let told = c .before .before in
-    let called = told .before .before .before .before .before .before .before .before in
-    rw (← called .run .ensures .0, told .outcome .given .1, c .verdict-number .ensures)
+    let called = told .before .before .before .before .before .before .before .before in (
+      rw (← called .run .ensures .0, told .outcome .given .1, c .verdict-number .ensures),
+      runs _ _ _ _ _ _ _ _ (called .run .ensures .1 .0)
+          (rw (← called .run .ensures .0, told .outcome .given .1, c .verdict-number .ensures)),
+    )
 
 same-length-4 : tie.Need-same-length-4
 same-length-4 c = c .before .before .before .before .before .before .before .before .before .before .before .run .kept .1 .1 .0
@@ -51,8 +55,11 @@ returns-2 : tie.Need-returns-2
 unfolding runCall runCode verdictAfter
 returns-2 c =
     let told = c .before .before .before in
-    let called = told .before .before .before .before .before .before .before .before in
-    rw (← called .run .ensures .0, told .outcome2 .given .1, c .code .ensures, c .before .refusal .ensures)
+    let called = told .before .before .before .before .before .before .before .before in (
+      rw (← called .run .ensures .0, told .outcome2 .given .1, c .code .ensures, c .before .refusal .ensures),
+      runs _ _ _ _ _ _ _ _ (called .run .ensures .1 .0)
+          (rw (← called .run .ensures .0, told .outcome2 .given .1, c .code .ensures, c .before .refusal .ensures)),
+    )
 
 pub ludo-run-spec : {M : Type 1} → statement M
 ludo-run-spec =

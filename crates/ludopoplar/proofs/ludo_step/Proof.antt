@@ -1,6 +1,7 @@
 -- `ludo_step` meets its contract: `step` answers what `stepOf` gives, the tally too, and each case of the outcome
 -- fixes code and word. Assumes nothing.
 use Rattle.ludopoplar.specs.Runs.{stepCode, wordAfter, stepCall}
+use Rattle.ludopoplar.proofs.CallLaws.{steps}
 use Rattle.ludopoplar.proofs.ludo_step.Statement.{statement}
 use Rattle.ludopoplar.proofs.ludo_step.Tie as tie
 
@@ -29,8 +30,11 @@ returns : tie.Need-returns
 unfolding stepCall stepCode wordAfter
 returns c =
     let told = c .before in
-    let called = told .before .before .before .before .before .before in
-    rw (← called .step .ensures .0, told .outcome .given .1)
+    let called = told .before .before .before .before .before .before in (
+      rw (← called .step .ensures .0, told .outcome .given .1),
+      steps _ _ _ _ _ _ _ _ _ (called .step .ensures .0) (called .step .ensures .1 .1)
+          (rw (← called .step .ensures .0, told .outcome .given .1)),
+    )
 
 same-length-3 : tie.Need-same-length-3
 same-length-3 c = c .before .before .before .before .before .before .before .before .before .step .kept .1 .1 .0
@@ -42,8 +46,11 @@ returns-2 : tie.Need-returns-2
 unfolding stepCall stepCode wordAfter
 returns-2 c =
     let told = c .before .before .before in
-    let called = told .before .before .before .before .before .before in
-    rw (← called .step .ensures .0, told .outcome2 .given .1, c .code .ensures, c .before .refusal .ensures)
+    let called = told .before .before .before .before .before .before in (
+      rw (← called .step .ensures .0, told .outcome2 .given .1, c .code .ensures, c .before .refusal .ensures),
+      steps _ _ _ _ _ _ _ _ _ (called .step .ensures .0) (called .step .ensures .1 .1)
+          (rw (← called .step .ensures .0, told .outcome2 .given .1, c .code .ensures, c .before .refusal .ensures)),
+    )
 
 pub ludo-step-spec : {M : Type 1} → statement M
 ludo-step-spec =

@@ -3,7 +3,7 @@
 use mathlib.Core.Path.{ap, _∙_}
 use Rattle.ludopoplar.specs.Codes.{codeOf}
 use Rattle.ludopoplar.specs.Circuits.{buildAs, buildWith, buildCheckedCall}
-use Rattle.ludopoplar.proofs.CheckedLaws.{build-refused, builds}
+use Rattle.ludopoplar.proofs.CallLaws.{build-refused, builds, answers}
 use Rattle.ludopoplar.proofs.checked.ludo_build_checked.Statement.{statement}
 use Rattle.ludopoplar.proofs.checked.ludo_build_checked.Tie as tie
 
@@ -31,7 +31,10 @@ returns c =
     let told = c .before in
     let called = told .before .before .before .before in (
       rw (← called .build .ensures .0, told .built .given .1),
-      λ _. builds _ _ _ _ _ _ (called .build .ensures .0) (told .built .given .1) (called .build .ensures .1),
+      (
+        λ _. builds _ _ _ _ _ _ (called .build .ensures .0) (told .built .given .1) (called .build .ensures .1),
+        answers _ _ _ _ _ (rw (← called .build .ensures .0, told .built .given .1)),
+      ),
     )
 
 same-length-2 : tie.Need-same-length-2
@@ -43,7 +46,10 @@ returns-2 c =
     let told = c .before .before .before in
     let called = told .before .before .before .before in (
       rw (← called .build .ensures .0, told .built2 .given .1, c .code .ensures, c .before .refusal .ensures),
-      build-refused _ _ (c .code .ensures ∙ ap codeOf (c .before .refusal .ensures)),
+      (
+        build-refused _ _ (c .code .ensures ∙ ap codeOf (c .before .refusal .ensures)),
+        answers _ _ _ _ _ (rw (← called .build .ensures .0, told .built2 .given .1, c .code .ensures, c .before .refusal .ensures)),
+      ),
     )
 
 pub ludo-build-checked-spec : {M : Type 1} → statement M

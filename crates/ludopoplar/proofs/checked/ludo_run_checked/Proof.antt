@@ -2,7 +2,7 @@
 -- code and verdict. Assumes nothing.
 use Rattle.ludopoplar.specs.Runs.{runCode, verdictAfter}
 use Rattle.ludopoplar.specs.CheckedRuns.{runCheckedCall}
-use Rattle.ludopoplar.proofs.CheckedLaws.{runs}
+use Rattle.ludopoplar.proofs.CallLaws.{runs}
 use Rattle.ludopoplar.proofs.checked.ludo_run_checked.Statement.{statement}
 use Rattle.ludopoplar.proofs.checked.ludo_run_checked.Tie as tie
 
@@ -37,8 +37,11 @@ returns : tie.Need-returns
 unfolding runCheckedCall runCode verdictAfter
 returns c =
     let told = c .before .before in
-    let called = told .before .before .before .before .before .before .before .before in
-    runs _ _ _ _ _ _ _ _ (rw (← called .run .ensures .0, told .outcome .given .1, c .verdict-number .ensures)) (called .run .ensures .1 .0)
+    let called = told .before .before .before .before .before .before .before .before in (
+      rw (← called .run .ensures .0, told .outcome .given .1, c .verdict-number .ensures),
+      runs _ _ _ _ _ _ _ _ (called .run .ensures .1 .0)
+          (rw (← called .run .ensures .0, told .outcome .given .1, c .verdict-number .ensures)),
+    )
 
 same-length-4 : tie.Need-same-length-4
 same-length-4 c = c .before .before .before .before .before .before .before .before .before .before .before .run .kept .1 .1 .0
@@ -53,8 +56,11 @@ returns-2 : tie.Need-returns-2
 unfolding runCheckedCall runCode verdictAfter
 returns-2 c =
     let told = c .before .before .before in
-    let called = told .before .before .before .before .before .before .before .before in
-    runs _ _ _ _ _ _ _ _ (rw (← called .run .ensures .0, told .outcome2 .given .1, c .code .ensures, c .before .refusal .ensures)) (called .run .ensures .1 .0)
+    let called = told .before .before .before .before .before .before .before .before in (
+      rw (← called .run .ensures .0, told .outcome2 .given .1, c .code .ensures, c .before .refusal .ensures),
+      runs _ _ _ _ _ _ _ _ (called .run .ensures .1 .0)
+          (rw (← called .run .ensures .0, told .outcome2 .given .1, c .code .ensures, c .before .refusal .ensures)),
+    )
 
 pub ludo-run-checked-spec : {M : Type 1} → statement M
 ludo-run-checked-spec =

@@ -2,7 +2,7 @@
 -- outcome fixes the code. Assumes nothing.
 use Rattle.ludopoplar.specs.Runs.{startCode}
 use Rattle.ludopoplar.specs.CheckedRuns.{startCheckedCall}
-use Rattle.ludopoplar.proofs.CheckedLaws.{starts}
+use Rattle.ludopoplar.proofs.CallLaws.{starts}
 use Rattle.ludopoplar.proofs.checked.ludo_start_checked.Statement.{statement}
 use Rattle.ludopoplar.proofs.checked.ludo_start_checked.Tie as tie
 
@@ -27,8 +27,11 @@ same-length c = c .before .before .before .before .start .kept .1 .0
 returns : tie.Need-returns
 unfolding startCheckedCall startCode
 returns c =
-    let called = c .before .before .before .before in
-    starts _ _ _ _ (rw (← called .start .ensures .0, c .enum-told .given .1)) (called .start .ensures .1 .1)
+    let called = c .before .before .before .before in (
+      rw (← called .start .ensures .0, c .enum-told .given .1),
+      starts _ _ _ _ (called .start .ensures .1 .1)
+          (rw (← called .start .ensures .0, c .enum-told .given .1)),
+    )
 
 same-length-2 : tie.Need-same-length-2
 same-length-2 c = c .before .before .before .before .before .before .before .start .kept .1 .0
@@ -37,8 +40,11 @@ returns-2 : tie.Need-returns-2
 unfolding startCheckedCall startCode
 returns-2 c =
     let told = c .before .before .before in
-    let called = told .before .before .before .before in
-    starts _ _ _ _ (rw (← called .start .ensures .0, told .outcome .given .1, c .code .ensures, c .before .refusal .ensures)) (called .start .ensures .1 .1)
+    let called = told .before .before .before .before in (
+      rw (← called .start .ensures .0, told .outcome .given .1, c .code .ensures, c .before .refusal .ensures),
+      starts _ _ _ _ (called .start .ensures .1 .1)
+          (rw (← called .start .ensures .0, told .outcome .given .1, c .code .ensures, c .before .refusal .ensures)),
+    )
 
 pub ludo-start-checked-spec : {M : Type 1} → statement M
 ludo-start-checked-spec =

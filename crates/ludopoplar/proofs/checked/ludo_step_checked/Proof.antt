@@ -2,7 +2,7 @@
 -- fixes code and words. Assumes nothing.
 use Rattle.ludopoplar.specs.Runs.{stepCode, wordAfter}
 use Rattle.ludopoplar.specs.CheckedRuns.{secondAfter, stepCheckedCall}
-use Rattle.ludopoplar.proofs.CheckedLaws.{steps}
+use Rattle.ludopoplar.proofs.CallLaws.{steps}
 use Rattle.ludopoplar.proofs.checked.ludo_step_checked.Statement.{statement}
 use Rattle.ludopoplar.proofs.checked.ludo_step_checked.Tie as tie
 
@@ -31,8 +31,11 @@ returns : tie.Need-returns
 unfolding stepCheckedCall stepCode wordAfter secondAfter
 returns c =
     let told = c .before in
-    let called = told .before .before .before .before .before .before in
-    steps _ _ _ _ _ _ _ _ (rw (← called .step .ensures .0, told .outcome .given .1)) _ (called .step .ensures .0) (called .step .ensures .1 .1)
+    let called = told .before .before .before .before .before .before in (
+      rw (← called .step .ensures .0, told .outcome .given .1),
+      steps _ _ _ _ _ _ _ _ _ (called .step .ensures .0) (called .step .ensures .1 .1)
+          (rw (← called .step .ensures .0, told .outcome .given .1)),
+    )
 
 same-length-3 : tie.Need-same-length-3
 same-length-3 c = c .before .before .before .before .before .before .before .before .before .step .kept .1 .1 .0
@@ -44,8 +47,11 @@ returns-2 : tie.Need-returns-2
 unfolding stepCheckedCall stepCode wordAfter secondAfter
 returns-2 c =
     let told = c .before .before .before in
-    let called = told .before .before .before .before .before .before in
-    steps _ _ _ _ _ _ _ _ (rw (← called .step .ensures .0, told .outcome2 .given .1, c .code .ensures, c .before .refusal .ensures)) _ (called .step .ensures .0) (called .step .ensures .1 .1)
+    let called = told .before .before .before .before .before .before in (
+      rw (← called .step .ensures .0, told .outcome2 .given .1, c .code .ensures, c .before .refusal .ensures),
+      steps _ _ _ _ _ _ _ _ _ (called .step .ensures .0) (called .step .ensures .1 .1)
+          (rw (← called .step .ensures .0, told .outcome2 .given .1, c .code .ensures, c .before .refusal .ensures)),
+    )
 
 pub ludo-step-checked-spec : {M : Type 1} → statement M
 ludo-step-checked-spec =

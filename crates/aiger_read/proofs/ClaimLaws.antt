@@ -24,7 +24,7 @@ use Rattle.aiger_read.specs.declared.Cause.the-variants.{TextTooLong, Sh
 use Rattle.aiger_read.specs.declared.ReadOutcome.{ReadOutcome}
 use Rattle.aiger_read.specs.declared.ReadOutcome.the-variants.{Numbers, Refused}
 use Rattle.aiger_read.specs.Files.{Rows, rows, failed, fileRead}
-use Rattle.aiger_read.specs.Read.{ReadEnd, readEnd, maxText, readAs, readOf}
+use Rattle.aiger_read.specs.Read.{refusalOf, ReadEnd, readEnd, maxText, readAs, readOf}
 use Rattle.aiger_read.specs.Claims.{IsFile, fileTo, lineOfOutput, lineOfGate, StartsWithNumber, StartsWithThree, ReadMeans}
 use Rattle.aiger_read.proofs.PlaceLaws.{at-split, at-whole, at-rest}
 use Rattle.aiger_read.proofs.FieldLaws.{Small}
@@ -170,4 +170,5 @@ same net other h g e =
     cc
 
 pub read-means : ReadMeans
-read-means = record { takes = takes; short = short; only = only; long = long; other = other; back = back; same = same; header = header; above = above; shape = shape; gate-shape = gate-shape; extra = extra }
+unfolding refusalOf
+read-means = record { numbered = λ line. (refl, refl, refl, refl); takes = takes; short = short; only = only; long = long; other = other; back = back; same = same; header = header; above = above; shape = shape; gate-shape = gate-shape; extra = extra }

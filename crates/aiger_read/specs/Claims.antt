@@ -16,7 +16,7 @@ use Rattle.aiger_read.specs.declared.Fault.{Fault}
 use Rattle.aiger_read.specs.declared.Fault.the-variants.{WrongShape, OutOfLimits}
 use Rattle.aiger_read.specs.declared.Cause.the-variants.{TextTooLong, ShortBuffer, FaultyLine}
 use Rattle.aiger_read.specs.declared.ReadOutcome.the-variants.{Numbers, Refused}
-use Rattle.aiger_read.specs.Read.{readEnd, readOf}
+use Rattle.aiger_read.specs.Read.{refusalOf, readEnd, readOf}
 
 -- a text is a file of the netlist net, with some of its resets 0 explicit
 pub record IsFile (text net : List ℕ) : Type 0 where
@@ -56,6 +56,9 @@ pub record StartsWithThree (text : List ℕ) : Type 0 where
 
 -- THE CLAIM, of any text and any buffer lent
 pub record ReadMeans : Type 0 where
+  -- the causes below have the numbers of document 01's table
+  pub numbered : (line : ℕ) → (refusalOf TextTooLong ≡ record { number = 1; line = 0 }) × (refusalOf ShortBuffer ≡ record { number = 12; line = 0 })
+      × (refusalOf (FaultyLine WrongShape line) ≡ record { number = 13; line = line }) × (refusalOf (FaultyLine OutOfLimits line) ≡ record { number = 14; line = line })
   -- a file is taken where the buffer has room for its netlist: the numbers stand first, the surplus stays
   pub takes : (text net buf : List ℕ) → IsFile text net → length net ≤ length buf
       → readOf text buf ≡ readEnd (Numbers (length net)) (net ++ drop (length net) buf)

@@ -129,6 +129,7 @@ paths-mean =
       finds = λ g cs r. passes (isRejected g cs) (rejected-finds g cs r);
       checked-found = λ g cs e. checked-found g cs (subst T (sym e) tt);
       checked-finds = λ g cs r. passes (isChecked g cs) (checked-finds g cs r);
+      bytes = λ g seen c cs. refl;
       none = none-counted;
       rejected-more = rejected-more;
       checked-more = checked-more;

@@ -147,7 +147,10 @@ pub record PathsMean : Type 0 where
   pub finds : (g : Graph) (cs : List Cycle) → Rejected g cs → isRejected g cs ≡ true
   pub checked-found : (g : Graph) (cs : List Cycle) → isChecked g cs ≡ true → Checked g cs
   pub checked-finds : (g : Graph) (cs : List Cycle) → Checked g cs → isChecked g cs ≡ true
-  -- of no cycles none is counted; of one cycle more that one counts, and once, exactly where its test passes
+  -- each verdict byte is of all cycles up to and with its own; of no cycles none is counted; of one cycle more that one
+  -- counts, and once, exactly where its test passes
+  pub bytes : (g : Graph) (seen : List Cycle) (c : Cycle) (cs : List Cycle)
+      → verdicts g seen (c ∷ cs) ≡ cond (isRejected g (seen ++ (c ∷ []))) 1 0 ∷ verdicts g (seen ++ (c ∷ [])) cs
   pub none : (g : Graph) → (countRejected g [] ≡ 0) × (countChecked g [] ≡ 0)
   pub rejected-more : (g : Graph) (cs : List Cycle) (c : Cycle) → countRejected g (cs ++ (c ∷ [])) ≡ countRejected g cs + cond (isRejected g (cs ++ (c ∷ []))) 1 0
   pub checked-more : (g : Graph) (cs : List Cycle) (c : Cycle) → countChecked g (cs ++ (c ∷ [])) ≡ countChecked g cs + cond (isChecked g (cs ++ (c ∷ []))) 1 0

@@ -22,7 +22,7 @@ use Rattle.demand.proofs.Demand.{demand3}
 use Rattle.demand.proofs.Forms.{either-form}
 use Rattle.builder.specs.declared.Cause.the-variants.{GraphText, TooManyVariables, ShortBuffer}
 use Rattle.builder.specs.declared.Built.the-variants.{Gates, Refused}
-use Rattle.builder.specs.Build.{variablesOf, BuildEnd, buildEnd, buildAs, buildOf}
+use Rattle.builder.specs.Build.{refusalOf, variablesOf, BuildEnd, buildEnd, buildAs, buildOf}
 use Rattle.builder.specs.Claims.{gatesDue, variablesDue, numbersDue, BuildMeans}
 use Rattle.builder.proofs.GraphLaws.{fits}
 
@@ -90,7 +90,7 @@ unfolding buildAs
 unread-text checked cause net = refl
 
 pub build-means : (checked : Bool) (text : Bytes) (net : List ℕ) → BuildMeans checked text net
-unfolding buildOf variablesOf
+unfolding refusalOf buildOf variablesOf
 build-means checked text net =
     record {
       numbers = λ g made e a. rw e (so g made e a .numbers);
@@ -102,6 +102,8 @@ build-means checked text net =
       short = λ g e n l. rw e (too-short checked g net (fits text e) n l);
       refuses = λ g e n. rw e (too-many checked g net (fits text e) n);
       unread = λ cause e. rw e (unread-text checked cause net);
+      numbered = (refl, refl, λ cause. refl);
+      variables = λ g e. due checked g net (fits text e);
       compared = alike-means;
       second = checked-means;
       forms = either-form;

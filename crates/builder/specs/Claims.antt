@@ -5,6 +5,7 @@ use mathlib.Core.List.{List, _++_}
 use Prim.Native.Nat.{ℕ, _+_, _-_, _*_, _≤_, _<_}
 use lib.ListN.{length, drop}
 use Rattle.assertion.specs.Graph.{Bytes, Graph, signalBits, constantBits}
+use Rattle.graph.specs.Reading as reading
 use Rattle.graph.specs.Reading.{refused, accepted, graphOf}
 use Rattle.graph.specs.declared.Cause as graph
 use Rattle.circuit.specs.Numbers.{numbersWith}
@@ -14,7 +15,7 @@ use Rattle.demand.specs.Demand.{Demand3}
 use Rattle.demand.specs.Forms.{EitherForm}
 use Rattle.builder.specs.declared.Cause.the-variants.{GraphText, TooManyVariables, ShortBuffer}
 use Rattle.builder.specs.declared.Built.the-variants.{Gates, Refused}
-use Rattle.builder.specs.Build.{buildEnd, buildOf}
+use Rattle.builder.specs.Build.{refusalOf, variablesOf, buildEnd, buildOf}
 
 -- by the graph alone: A by the formula, "2T − 1 are added when T is at least 1"; M = I + L + A; and how many numbers M I L
 -- O A, the latches, the outputs and the gates are
@@ -46,6 +47,10 @@ pub record BuildMeans (checked : Bool) (text : Bytes) (net : List ℕ) : Type 0 
   pub refuses : (g : Graph) → graphOf text ≡ accepted g → 4095 < variablesDue checked g
       → buildOf checked text net ≡ buildEnd (Refused TooManyVariables) net
   pub unread : (cause : graph.Cause) → graphOf text ≡ refused cause → buildOf checked text net ≡ buildEnd (Refused (GraphText cause)) net
+  -- these causes have these numbers, and M of the definitions of the programs' pages is the one above
+  pub numbered : (refusalOf TooManyVariables ≡ record { number = 11; line = 0 }) × (refusalOf ShortBuffer ≡ record { number = 12; line = 0 })
+      × ((cause : graph.Cause) → refusalOf (GraphText cause) ≡ reading.refusalOf cause)
+  pub variables : (g : Graph) → graphOf text ≡ accepted g → variablesOf checked g ≡ variablesDue checked g
   -- the gates of `==` stand in the order that document 02 says
   pub compared : AlikeMeans
   -- those of checked too, behind those of accept; without it gates and output are those of document 01

@@ -1,7 +1,7 @@
-// The builder of monitor circuits: graph text to the numbers of a netlist, with the output checked or without.
-// What a graph text is stands in graph, and what its monitor is in circuit: here is how its numbers come into a
-// lent buffer. Knows of start, step and run only their definitions. Exports that a build answers and leaves just what those definitions
-// say, and with it demand 3, from graph text to tally.
+// The builder of monitor circuits: graph text to the numbers of a netlist, with the output checked or without. What a
+// graph text is stands in graph, and what its monitor is in circuit: here is how its numbers come into a lent buffer.
+// Knows of start, step and run only their definitions. Exports that a build answers and leaves just what those
+// definitions say, and with it demand 3, from graph text to tally.
 use count::gate_count;
 use graph::CheckedGraph;
 use graph::ReadOutcome;

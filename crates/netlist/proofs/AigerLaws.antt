@@ -8,13 +8,14 @@ use borrow.Author.Tests.{eq-eqb, le-leb}
 use lib.ListN.{length, getD, length-append, List·getD-append}
 use lib.Seq.{getD-append-add, ext-getD}
 use borrow.Author.Count.{below-more}
-use Rattle.netlist.specs.Layout.{inputCount, latchCount, gateCount, operandsAt, inputVariable, latchVariable, gateVariable}
-use Rattle.netlist.specs.Literals.{variableOf}
+use Rattle.netlist.specs.Layout.{maximum, inputCount, latchCount, outputCount, gateCount, outputAt, operandsAt, sizeOf, inputVariable, latchVariable, gateVariable}
+use Rattle.netlist.specs.Literals.{variableOf, literalOf}
 use Rattle.netlist.specs.Lanes.{lane}
 use Rattle.netlist.specs.Meaning.{bools, words, litOf, gateOf, gatesOf, front, valuesOf}
-use Rattle.netlist.specs.Valid.{headerOk}
+use Rattle.netlist.specs.Valid.{headerOk, isWithin, latchOk, freeCount, outputOk, gateOk, isNetlist}
 use Rattle.netlist.specs.Aiger.{Satisfies, OneLane, Means}
-use Rattle.netlist.proofs.ValidLaws.{Valid, valid}
+use Rattle.netlist.proofs.EachLaws.{each-all}
+use Rattle.netlist.proofs.ValidLaws.{Valid, header, valid}
 use Rattle.netlist.proofs.MeaningLaws.{lit-same, length-values, gates-front, gates-at, lane-hom, values-hom, next-hom, output-hom}
 
 -- what holds below b, and at each of the n numbers from b on where it holds below that, holds below b + n
@@ -124,6 +125,22 @@ header-ok : (m i l o a : ℕ) → m ≡ i + l + a → m ≤ 4095 → 1 ≤ i →
 unfolding headerOk
 header-ok m i l o a e h1 h2 h3 h4 h5 = rw (eq-eqb _ _ e, le-leb _ _ h1, le-leb _ _ h2, le-leb _ _ h3, le-leb _ _ h4, le-leb _ _ h5)
 
+-- and numbers whose parts are good
+netlist-ok : (net : List ℕ) → 5 ≤ length net → headerOk (maximum net) (inputCount net) (latchCount net) (outputCount net) (gateCount net) ≡ true → sizeOf net ≤ length net
+    → ((k : ℕ) → k < outputCount net → getD net (outputAt net k) 0 ≤ literalOf (maximum net) true) → ((k : ℕ) → k < latchCount net → latchOk net k ≡ true)
+    → freeCount net (latchCount net) ≤ 6 → ((k : ℕ) → k < gateCount net → gateOk net k ≡ true) → isNetlist net ≡ true
+unfolding isNetlist outputOk isWithin
+netlist-ok net n h s outputs latches free gates =
+    rw (
+      le-leb _ _ n,
+      h,
+      le-leb _ _ s,
+      each-all (outputOk net) (outputCount net) (λ k l. le-leb _ _ (outputs k l)),
+      each-all (latchOk net) (latchCount net) latches,
+      le-leb _ _ free,
+      each-all (gateOk net) (gateCount net) gates,
+    )
+
 -- THE MEANING holds of every list of numbers
 pub means : (net : List ℕ) → Means net
 means net =
@@ -137,4 +154,6 @@ means net =
       aiger = λ e ins latches hi hl. one-lane net (valid net e) ins latches hi hl;
       outputs = λ e. (valid net e .output, valid net e .most);
       either = header-ok;
+      limits = λ m i l o a e. let h = header m i l o a e in (h .sum, h .small, h .some, h .few, h .output, h .most);
+      taken = netlist-ok net;
     }

@@ -5,10 +5,11 @@ use mathlib.Core.Bool.{Bool, true, false, _&&_}
 use mathlib.Core.List.{List, map}
 use Prim.Native.Nat.{ℕ, _+_, _<_, _≤_}
 use lib.ListN.{length, getD}
-use Rattle.netlist.specs.Layout.{maximum, inputCount, latchCount, outputCount, gateCount, operandsAt, inputVariable, latchVariable, gateVariable}
+use Rattle.netlist.specs.Layout.{maximum, inputCount, latchCount, outputCount, gateCount, outputAt, operandsAt, sizeOf, inputVariable, latchVariable, gateVariable}
+use Rattle.netlist.specs.Literals.{literalOf}
 use Rattle.netlist.specs.Lanes.{lane}
 use Rattle.netlist.specs.Meaning.{bools, words, litOf, valuesOf, nextOf, outputOf}
-use Rattle.netlist.specs.Valid.{headerOk, isNetlist}
+use Rattle.netlist.specs.Valid.{headerOk, latchOk, freeCount, gateOk, isNetlist}
 
 -- v values the variables 0 to M as AIGER asks: variable 0 is false, inputs and latches have the values
 -- given, and each gate is the AND of its two operand literals
@@ -38,5 +39,10 @@ pub record Means (net : List ℕ) : Type 0 where
   pub aiger : isNetlist net ≡ true → (ins latches : List Bool) → length ins ≡ inputCount net → length latches ≡ latchCount net → OneLane net ins latches
   -- document 02, No. 7: "O may be 1 or 2"
   pub outputs : isNetlist net ≡ true → (1 ≤ outputCount net) × (outputCount net ≤ 2)
-  -- either, wherever the other numbers of the header are within their limits
+  -- either, wherever the other numbers of the header are within their limits, and no other header
   pub either : (m i l o a : ℕ) → m ≡ i + l + a → m ≤ 4095 → 1 ≤ i → i ≤ 64 → 1 ≤ o → o ≤ 2 → headerOk m i l o a ≡ true
+  pub limits : (m i l o a : ℕ) → headerOk m i l o a ≡ true → (m ≡ i + l + a) × (m ≤ 4095) × (1 ≤ i) × (i ≤ 64) × (1 ≤ o) × (o ≤ 2)
+  -- numbers with such a header are a netlist wherever their outputs, latches and gates, each by itself, are good
+  pub taken : 5 ≤ length net → headerOk (maximum net) (inputCount net) (latchCount net) (outputCount net) (gateCount net) ≡ true → sizeOf net ≤ length net
+      → ((k : ℕ) → k < outputCount net → getD net (outputAt net k) 0 ≤ literalOf (maximum net) true) → ((k : ℕ) → k < latchCount net → latchOk net k ≡ true)
+      → freeCount net (latchCount net) ≤ 6 → ((k : ℕ) → k < gateCount net → gateOk net k ≡ true) → isNetlist net ≡ true

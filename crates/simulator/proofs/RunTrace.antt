@@ -79,6 +79,10 @@ module _ (net trace latches values verdicts : List ℕ) (t : Tally) where
   unfolding runOf
   kept-as cause e = sym (run-refused net trace latches values verdicts t check cause refl (told-by check cause e))
 
+  passed-as : (v : Verdict) → outcome ≡ Done v → check ≡ Passed
+  unfolding runOf
+  passed-as v e = passed-by check v e
+
   done : check ≡ Passed → outcome ≡ Done (verdictOf (runCycles net (running latches values [] t) (cyclesOf (inputCount net) trace) .bytes))
   unfolding ranTo
   done e = ap (λ (x : RunEnd). x .answer .outcome) (run-is net trace latches values verdicts t e)
@@ -87,6 +91,7 @@ module _ (net trace latches values verdicts : List ℕ) (t : Tally) where
   trace-of-run =
       record {
         means = trace-means (inputCount net) trace;
+        passed = passed-as;
         line = first-wrong;
         guarded = fits;
         full = fits-not;

@@ -8,7 +8,7 @@ use native.Mathlib.Numerals.{add-one}
 use native.Mathlib.Omega.{arith}
 use lib.Dec.{leb, eqb}
 use lib.ListN.{length, getD, set, drop, length-append, List·getD-append}
-use lib.Seq.{getD-at}
+use lib.Seq.{getD-at, drop-at}
 use borrow.Author.Count.{below-more}
 use borrow.Author.Tests.{eqb-true, le-leb, lt-leb}
 use Rattle.netlist.specs.Layout.{latchCount, resetAt}
@@ -195,6 +195,11 @@ module _ (net latches : List ℕ) (t : Tally) where
   kept-as Passed cause e = let z : _≡_ {A = ℕ} 0 1 = cc in absurd (omega arith)
   kept-as (Failed told) cause e = let k : told ≡ cause = cc in rw k refl
 
+  ready-by : (c : Tested) → startAs c net latches t .answer .outcome ≡ Ready → c ≡ Passed
+  unfolding startAs
+  ready-by Passed e = refl
+  ready-by (Failed cause) e = let z : _≡_ {A = ℕ} 0 1 = cc in absurd (omega arith)
+
   -- the words of the uninitialised latches are those that the formula gives
   pub start-computed : WordsOfStart net latches t
   unfolding startOf
@@ -204,6 +209,10 @@ module _ (net latches : List ℕ) (t : Tally) where
         free = words-free;
         clears = λ e. sym (ap (λ (x : StartEnd). x .answer .tally) (start-is e));
         kept = kept-as (startCheck net (length latches));
+        surplus = λ e.
+            ap (λ (x : StartEnd). drop (latchCount net) (x .latches)) (sym (start-is (ready-by (startCheck net (length latches)) e)))
+            ∙ drop-at (startWords net (latchCount net)) (drop (latchCount net) latches) (latchCount net) (length-starts net (latchCount net));
+        passed = ready-by (startCheck net (length latches));
         tests = start-tested _ _ net (length latches)
             (λ e. sym (ap (λ (x : StartEnd). x .answer .outcome) (start-is e)))
             (λ cause e. (sym (ap (λ (x : StartEnd). x .answer .outcome) (start-refused _ cause refl e)), refl));

@@ -5,7 +5,7 @@ use mathlib.Core.List.{List, map}
 use Prim.Native.Nat.{ℕ, _+_, _<_}
 use native.Mathlib.Omega.{arith}
 use lib.ListN.{length, getD, take, drop, length-map, List·getD-append}
-use lib.Seq.{take-at, length-take-le}
+use lib.Seq.{take-at, drop-at, length-take-le}
 use Rattle.netlist.specs.Layout.{maximum, inputCount, latchCount, outputCount, nextAt, outputAt}
 use Rattle.netlist.specs.Lanes.{lane}
 use Rattle.netlist.specs.Meaning.{bools, words, bitOf, litOf, valuesOf, nextsOf, nextOf, outputOf}
@@ -117,6 +117,17 @@ module _ (net cycle latches values : List ℕ) (t : Tally) where
   unfolding checkedWord
   none o = rw o
 
+  -- what stands behind the latches and the values
+  behind : StepReady net cycle (length latches) (length values) t
+      → (drop (latchCount net) (latchesAfter net cycle latches) ≡ drop (latchCount net) latches)
+      × (drop (maximum net + 1) (valuesAfter net cycle latches values) ≡ drop (maximum net + 1) values)
+  unfolding latchesAfter valuesAfter nextOf
+  behind r = (
+    drop-at (nextsOf words net (latchCount net) (cycleWords net cycle latches)) (drop (latchCount net) latches) (latchCount net) (length-nexts words net (latchCount net) (cycleWords net cycle latches)),
+    drop-at (cycleWords net cycle latches) (drop (maximum net + 1) values) (maximum net + 1)
+        (length-words net cycle latches (valid net (r .netlist)) (cycle-length (inputCount net) cycle (r .bits)) (r .latches)),
+  )
+
   counts-as : (k : Tested) → stepCheck net cycle (length latches) (length values) t ≡ k → StepCounts net cycle latches values t (stepAs k net cycle latches values t)
   unfolding stepAs
   counts-as Passed is =
@@ -127,6 +138,8 @@ module _ (net cycle latches values : List ℕ) (t : Tally) where
         counts = λ w c e. let ew : ow ≡ w = cc in let ec : cw ≡ c = cc in rw (← ew, ← ec) more;
         one-output = λ w c e o. let ec : cw ≡ c = cc in (sym ec ∙ none o, more .unchecked (λ n l. ap (lane n) (none o) ∙ lane-zero n));
         guarded = λ w c e. room-fits t 1 (step-passed net cycle (length latches) (length values) t _ (sym is) refl .room);
+        surplus = λ w c e. behind (step-passed net cycle (length latches) (length values) t _ (sym is) refl);
+        passed = λ w c e. is;
         full = λ e. let z : _≡_ {A = ℕ} 0 1 = cc in absurd (omega arith);
         tests = step-tested _ _ net cycle (length latches) (length values) t (λ _. (ow, cw, refl)) (λ cause e. let z : _≡_ {A = ℕ} 0 1 = cc in absurd (omega arith));
         kept = λ cause e. let z : _≡_ {A = ℕ} 0 1 = cc in absurd (omega arith);
@@ -135,6 +148,8 @@ module _ (net cycle latches values : List ℕ) (t : Tally) where
       record {
         counts = λ w c e. let z : _≡_ {A = ℕ} 0 1 = cc in absurd (omega arith);
         one-output = λ w c e. let z : _≡_ {A = ℕ} 0 1 = cc in absurd (omega arith);
+        surplus = λ w c e. let z : _≡_ {A = ℕ} 0 1 = cc in absurd (omega arith);
+        passed = λ w c e. let z : _≡_ {A = ℕ} 0 1 = cc in absurd (omega arith);
         guarded = λ w c e. let z : _≡_ {A = ℕ} 0 1 = cc in absurd (omega arith);
         full = λ e f.
             let k : cause ≡ FullTally = cc in

@@ -47,7 +47,7 @@ pub record BuildMeans (checked : Bool) (text : Bytes) (net : List ℕ) : Type 0 
   pub refuses : (g : Graph) → graphOf text ≡ accepted g → 4095 < variablesDue checked g
       → buildOf checked text net ≡ buildEnd (Refused TooManyVariables) net
   pub unread : (cause : graph.Cause) → graphOf text ≡ refused cause → buildOf checked text net ≡ buildEnd (Refused (GraphText cause)) net
-  -- these causes have these numbers, and M of the definitions of the programs' pages is the one above
+  -- these causes have these numbers; and M as the programs' pages have it is the one above
   pub numbered : (refusalOf TooManyVariables ≡ record { number = 11; line = 0 }) × (refusalOf ShortBuffer ≡ record { number = 12; line = 0 })
       × ((cause : graph.Cause) → refusalOf (GraphText cause) ≡ reading.refusalOf cause)
   pub variables : (g : Graph) → graphOf text ≡ accepted g → variablesOf checked g ≡ variablesDue checked g

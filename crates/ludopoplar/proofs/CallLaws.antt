@@ -16,13 +16,8 @@ use Rattle.builder.specs.declared.Built.the-variants.{Gates, Refused}
 use Rattle.builder.specs.Build as build
 use Rattle.builder.specs.Build.{variablesOf, BuildEnd, buildEnd, buildAs, buildOf}
 use Rattle.builder.specs.Claims.{BuildMeans}
-use Rattle.calls.specs.declared.refusal.Tested.{Tested}
-use Rattle.calls.specs.declared.refusal.Tested.the-variants.{Passed, Failed}
 use Rattle.calls.specs.declared.tally.Tally.{Tally}
-use Rattle.calls.specs.Tallies.{cleared}
-use Rattle.calls.specs.Refusals.{startCheck}
-use Rattle.simulator.specs.declared.outcome.StartOutcome.the-variants.{Ready}
-use Rattle.simulator.specs.Start.{StartEnd, startAs, startOf}
+use Rattle.simulator.specs.Start.{StartEnd, startOf}
 use Rattle.simulator.specs.Step.{StepEnd, stepOf}
 use Rattle.simulator.specs.Run.{RunEnd, runOf}
 use Rattle.simulator.specs.Claims.{WordsOfStart, StepCounts, TraceOfRun}
@@ -91,15 +86,6 @@ answers checked text before was end is =
 
 -- ---- start: an accepted one gives the tally of three zeros, a refused one changes nothing
 module _ (net latches : List ℕ) (t : Tally) (Ends : ℕ → List ℕ → Tally → Type 0) where
-  clears-as : (k : Tested) → startAs k net latches t .answer .outcome ≡ Ready → startAs k net latches t .answer .tally ≡ cleared
-  unfolding startAs
-  clears-as Passed is = refl
-  clears-as (Failed cause) is = let z : _≡_ {A = ℕ} 0 1 = cc in absurd (omega arith)
-
-  clears : startOf net latches t .answer .outcome ≡ Ready → startOf net latches t .answer .tally ≡ cleared
-  unfolding startOf
-  clears = clears-as (startCheck net (length latches))
-
   abbrev Started : StartEnd → Type 0
   Started e = Ends (startCode (e .answer .outcome)) (e .latches) (e .answer .tally)
 
@@ -107,7 +93,7 @@ module _ (net latches : List ℕ) (t : Tally) (Ends : ℕ → List ℕ → Tally
   unfolding startCode codeOf
   starts means is =
       record {
-        ready = λ told. rw (told, clears told) at is;
+        ready = λ told. rw (told, means .clears (means .passed told)) at is;
         refused = λ cause told. subst Started (means .kept cause told) is;
       }
 

@@ -55,7 +55,7 @@ pub record WordsOfStart (net latches : List ℕ) (t : Tally) : Type 0 where
   pub clears : startCheck net (length latches) ≡ Passed → startOf net latches t .answer .tally ≡ record { cycles = 0; rejected = 0; checked = 0 }
   pub kept : (cause : Cause) → startOf net latches t .answer .outcome ≡ start.Refused cause
       → startOf net latches t ≡ startEnd (record { outcome = start.Refused cause; tally = t }) latches
-  -- the words behind the latches stay; and what is said above of its tests holds of a start that answers so
+  -- the words behind the latches stay; and a start that answers Ready passed its tests, so the above speaks of it
   pub surplus : startOf net latches t .answer .outcome ≡ start.Ready → drop (latchCount net) (startOf net latches t .latches) ≡ drop (latchCount net) latches
   pub passed : startOf net latches t .answer .outcome ≡ start.Ready → startCheck net (length latches) ≡ Passed
   -- which starts are refused, and for what
@@ -93,7 +93,8 @@ pub record StepCounts (net cycle latches values : List ℕ) (t : Tally) (end : S
   pub counts : (w c : ℕ) → end .answer .outcome ≡ Output w c → CycleMore t w c (end .answer .tally)
   -- "the second 0 when O = 1", and "with O = 1 the third number does not move"
   pub one-output : (w c : ℕ) → end .answer .outcome ≡ Output w c → outputCount net ≡ 1 → (c ≡ 0) × (end .answer .tally .checked ≡ t .checked)
-  -- the words behind the latches and the values stay; and what `StepMeans` says holds of a step that answers so
+  -- the words behind the latches and the values stay; and a step that answers words passed its tests, so `StepMeans`
+  -- speaks of it
   pub surplus : (w c : ℕ) → end .answer .outcome ≡ Output w c
       → (drop (latchCount net) (end .latches) ≡ drop (latchCount net) latches) × (drop (maximum net + 1) (end .values) ≡ drop (maximum net + 1) values)
   pub passed : (w c : ℕ) → end .answer .outcome ≡ Output w c → stepCheck net cycle (length latches) (length values) t ≡ Passed
@@ -111,7 +112,7 @@ pub record TraceOfRun (net trace latches values verdicts : List ℕ) (t : Tally)
   -- buffers and the tally are looked at
   pub tests : RunTested net trace (length latches) (length values) (length verdicts) t ((v : Verdict) × (runOf net trace latches values verdicts t .answer .outcome ≡ run.Done v))
       (λ cause number line. (runOf net trace latches values verdicts t .answer .outcome ≡ run.Refused cause) × (refusalOf cause ≡ record { number = number; line = line }))
-  -- what is said below of its tests holds of a run that answers so
+  -- a run with a verdict passed its tests, so `RunIsSteps` and `VerdictMeans` speak of it
   pub passed : (v : Verdict) → runOf net trace latches values verdicts t .answer .outcome ≡ run.Done v
       → runCheck net trace (length latches) (length values) (length verdicts) t ≡ Passed
   -- a refusal that tells a line, from 1, tells the first wrong one

@@ -7,20 +7,20 @@ use borrow.Author.Tests.{eqb-true, eq-eqb, ne-eqb}
 use lib.Dec.{eqb}
 use lib.ListN.{length}
 use Rattle.netlist.specs.Literals.{literalOf}
-use Rattle.aiger_read.specs.declared.Fault.{Fault}
-use Rattle.aiger_read.specs.declared.Fault.the-variants.{WrongShape}
-use Rattle.aiger_read.specs.Lines.{Row, inputAt, latchAt, outputAt, gateAt}
-use Rattle.aiger_read.specs.Files.{Rows, rows, failed, behind, andThen, rowsOf, endOf, bodyOf}
-use Rattle.aiger_read.proofs.RunLaws.{Run, run-of, then-rows, failed-rows}
+use Rattle.aiger_lines.specs.declared.Fault.{Fault}
+use Rattle.aiger_lines.specs.declared.Fault.the-variants.{WrongShape}
+use Rattle.aiger_lines.specs.Lines.{Row}
+use Rattle.aiger_lines.specs.Blocks.{Rows, rows, failed, behind, andThen, rowsOf, endOf}
+use Rattle.aiger_lines.proofs.RunLaws.{Run, run-of, then-rows, failed-rows}
+use Rattle.aiger_lines.proofs.NetLaws.{outputRows}
+use Rattle.aiger_read.specs.Lines.{inputAt, latchAt, gateAt}
+use Rattle.aiger_read.specs.Files.{bodyOf}
 
 abbrev pub inputRows : List ℕ → ℕ → ℕ → ℕ → Row
 inputRows s k = inputAt s (literalOf (1 + k) false)
 
 abbrev pub latchRows : List ℕ → ℕ → ℕ → ℕ → ℕ → ℕ → Row
 latchRows s m i k = latchAt s (literalOf m true) (literalOf (i + 1 + k) false)
-
-abbrev pub outputRows : List ℕ → ℕ → ℕ → ℕ → ℕ → Row
-outputRows s m k = outputAt s (literalOf m true)
 
 abbrev pub gateRows : List ℕ → ℕ → ℕ → ℕ → ℕ → ℕ → Row
 gateRows s i l k = gateAt s (literalOf (i + l + 1 + k) false)

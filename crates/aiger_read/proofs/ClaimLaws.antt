@@ -17,20 +17,22 @@ use Rattle.aiger.specs.Rows.{headerRow, literalRow}
 use Rattle.aiger.specs.Format.{gateLine, fileWith, fileOf}
 use Rattle.aiger.proofs.FormatLaws.{trimmed-size, trimmed-file, trimmed-length, trimmed-netlist}
 use Rattle.aiger.proofs.LengthLaws.{file-length}
-use Rattle.aiger_read.specs.declared.Fault.{Fault}
-use Rattle.aiger_read.specs.declared.Fault.the-variants.{WrongShape, OutOfLimits}
+use Rattle.aiger_lines.specs.declared.Fault.{Fault}
+use Rattle.aiger_lines.specs.declared.Fault.the-variants.{WrongShape, OutOfLimits}
+use Rattle.aiger_lines.specs.Blocks.{Rows, rows, failed}
+use Rattle.aiger_lines.proofs.PlaceLaws.{at-split, at-whole, at-rest}
+use Rattle.aiger_lines.proofs.FieldLaws.{Small}
+use Rattle.aiger_lines.proofs.TextLaws.{output-above, output-wrong}
 use Rattle.aiger_read.specs.declared.Cause.{Cause}
 use Rattle.aiger_read.specs.declared.Cause.the-variants.{TextTooLong, ShortBuffer, FaultyLine}
 use Rattle.aiger_read.specs.declared.ReadOutcome.{ReadOutcome}
 use Rattle.aiger_read.specs.declared.ReadOutcome.the-variants.{Numbers, Refused}
-use Rattle.aiger_read.specs.Files.{Rows, rows, failed, fileRead}
+use Rattle.aiger_read.specs.Files.{fileRead}
 use Rattle.aiger_read.specs.Read.{refusalOf, ReadEnd, readEnd, maxText, readAs, readOf}
 use Rattle.aiger_read.specs.Claims.{IsFile, fileTo, lineOfOutput, lineOfGate, StartsWithNumber, StartsWithThree, ReadMeans}
-use Rattle.aiger_read.proofs.PlaceLaws.{at-split, at-whole, at-rest}
-use Rattle.aiger_read.proofs.FieldLaws.{Small}
-use Rattle.aiger_read.proofs.TextLaws.{output-above, output-wrong, gate-wrong}
+use Rattle.aiger_read.proofs.TextLaws.{gate-wrong}
 use Rattle.aiger_read.proofs.FileLaws.{sound}
-use Rattle.aiger_read.proofs.CompleteLaws.{head-fault, file-fault, gate-fault, file-extra, complete}
+use Rattle.aiger_read.proofs.CompleteLaws.{header-fault, file-fault, gate-fault, file-extra, complete}
 
 -- ---- a file is read as its netlist, and no limit is in its way
 
@@ -111,7 +113,7 @@ unfolding Small
 header buf m i l o a more hm hi hl ho ha e small =
     let h = headerRow m i l o a in
     faulty buf (h ++ more) OutOfLimits 1 small
-    (head-fault (h ++ more) m i l o a (0 + length h) (at-split h more (at-whole (h ++ more) refl) .0) (hm, (hi, (hl, (ho, (ha, tt))))) e)
+    (header-fault (h ++ more) m i l o a (0 + length h) (at-split h more (at-whole (h ++ more) refl) .0) (hm, (hi, (hl, (ho, (ha, tt))))) e)
 
 module _ (net buf : List ℕ) (explicit : ℕ → Bool) (k : ℕ) where
   above : (lit : ℕ) (more : List ℕ) → isNetlist net ≡ true → k < outputCount net → literalOf (maximum net) true < lit → lit < 100000 → length (fileTo net explicit k ++ (literalRow lit ++ more)) ≤ 65536

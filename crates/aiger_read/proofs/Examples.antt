@@ -11,13 +11,16 @@ use Rattle.text.specs.Numbers.{isDigit, leadingDigits, valueFrom, isNumeral, re
 use Rattle.netlist.specs.Literals.{literalOf, variableOf, isInverted}
 use Rattle.netlist.specs.Meaning.{bools, signed, litOf, gateOf, gatesOf, front, valuesOf, nextsOf, nextOf, outputOf}
 use Rattle.netlist.specs.Valid.{headerOk}
-use Rattle.aiger_read.specs.declared.Fault.{Fault}
-use Rattle.aiger_read.specs.declared.Fault.the-variants.{WrongShape, OutOfLimits}
+use Rattle.aiger_lines.specs.declared.Fault.{Fault}
+use Rattle.aiger_lines.specs.declared.Fault.the-variants.{WrongShape, OutOfLimits}
+use Rattle.aiger_lines.specs.Fields.{onNumber, numberThen, before, fieldsOf, eitherOf}
+use Rattle.aiger_lines.specs.Lines.{judged, latchSays, outputAt}
+use Rattle.aiger_lines.specs.Blocks.{behind, andThen, onRow, rowsOf, endOf}
+use Rattle.aiger_lines.specs.Heads.{hasTag, headed, headAt, onHead}
 use Rattle.aiger_read.specs.declared.Cause.the-variants.{FaultyLine}
 use Rattle.aiger_read.specs.declared.ReadOutcome.the-variants.{Numbers, Refused}
-use Rattle.aiger_read.specs.Fields.{onNumber, numberThen, before, fieldsOf, latchFields}
-use Rattle.aiger_read.specs.Lines.{judged, inputAt, latchFits, latchAt, outputAt, gateFits, gateAt}
-use Rattle.aiger_read.specs.Files.{behind, andThen, onRow, rowsOf, endOf, bodyOf, hasTag, headed, fileRead}
+use Rattle.aiger_read.specs.Lines.{inputAt, latchAt, gateFits, gateAt}
+use Rattle.aiger_read.specs.Files.{bodyOf, fileRead}
 use Rattle.aiger_read.specs.Read.{readEnd, readAs, readOf}
 
 -- a text is read as a netlist, into a buffer of just its length
@@ -98,7 +101,7 @@ pub record Table : Type 0 where
   pub no-text : refuses [] WrongShape 1
 
 pub table : Table
-unfolding isDigit leadingDigits valueFrom isNumeral readNumber literalOf headerOk onNumber numberThen before fieldsOf latchFields judged inputAt latchFits latchAt outputAt gateFits gateAt behind andThen onRow rowsOf endOf bodyOf hasTag headed fileRead readAs readOf
+unfolding isDigit leadingDigits valueFrom isNumeral readNumber literalOf headerOk onNumber numberThen before fieldsOf eitherOf judged latchSays inputAt latchAt outputAt gateFits gateAt behind andThen onRow rowsOf endOf bodyOf hasTag headed headAt onHead fileRead readAs readOf
 table =
     record {
       buffer = refl;

@@ -1,17 +1,9 @@
 -- The laws that belong to no one function.
-pub mod LineLaws
-pub mod LimitLaws
 pub mod RowLaws
-pub mod HeadLaws
 pub mod StoreLaws
 pub mod PassLaws
 pub mod ReadLaws
-pub mod NumeralLaws
-pub mod PlaceLaws
-pub mod FieldLaws
 pub mod TextLaws
-pub mod RunLaws
-pub mod LayoutLaws
 pub mod BodyLaws
 pub mod SoundLaws
 pub mod FileLaws

@@ -5,12 +5,13 @@ use mathlib.Core.List.{List, [], _∷_}
 use Prim.Native.Nat.{ℕ, _≤_, _<_}
 use borrow.Author.Tests.{le-leb, lt-leb, eq-eqb, ne-eqb, lt-ltb, le-ltb}
 use lib.ListN.{getD}
-use Rattle.aiger_read.specs.declared.Fault.the-variants.{WrongShape, OutOfLimits}
-use Rattle.aiger_read.specs.declared.Line.{Line}
-use Rattle.aiger_read.specs.Fields.{fieldsOf, latchFields}
-use Rattle.aiger_read.specs.Lines.{Row, row, fault, inputAt, latchFits, latchAt, outputAt, gateFits, gateAt}
-use Rattle.aiger_read.specs.Private.Steps.{LineIs, resetRow}
-use Rattle.aiger_read.proofs.LineLaws.{judged-wrong, judged-as}
+use Rattle.aiger_lines.specs.declared.Fault.the-variants.{WrongShape, OutOfLimits}
+use Rattle.aiger_lines.specs.declared.Line.{Line}
+use Rattle.aiger_lines.specs.Fields.{fieldsOf, eitherOf}
+use Rattle.aiger_lines.specs.Lines.{Row, row, fault, latchSays}
+use Rattle.aiger_lines.specs.Private.Steps.{LineIs}
+use Rattle.aiger_lines.proofs.LineLaws.{judged-wrong, judged-as}
+use Rattle.aiger_read.specs.Lines.{inputAt, latchAt, gateFits, gateAt}
 
 module _ (s : List ℕ) (free p : ℕ) (l : Line) where
   module _ (is : LineIs (fieldsOf s 0 p) l) where
@@ -26,39 +27,20 @@ module _ (s : List ℕ) (free p : ℕ) (l : Line) where
     unfolding inputAt
     input-good lit h n = judged-as (fieldsOf s 0 p) l is h _ _ (λ vs e. rw (← e 0) (rw (eq-eqb (getD (l .values) 0 0) lit n)))
 
-    pub output-wrong : (last : ℕ) → not (l .formed) ≡ true → fault WrongShape ≡ outputAt s last free p
-    unfolding outputAt
-    output-wrong last h = judged-wrong (fieldsOf s 0 p) l is h _
-
-    pub output-bad : (last : ℕ) → not (l .formed) ≡ false → last < getD (l .values) 0 0 → fault OutOfLimits ≡ outputAt s last free p
-    unfolding outputAt
-    output-bad last h n = judged-as (fieldsOf s 0 p) l is h _ _ (λ vs e. rw (← e 0) (rw (lt-leb (getD (l .values) 0 0) last n)))
-
-    pub output-good : (last : ℕ) → not (l .formed) ≡ false → getD (l .values) 0 0 ≤ last → row (getD (l .values) 0 0 ∷ []) free (l .next) ≡ outputAt s last free p
-    unfolding outputAt
-    output-good last h n = judged-as (fieldsOf s 0 p) l is h _ _ (λ vs e. rw (← e 0) (rw (le-leb (getD (l .values) 0 0) last n)))
-
-  module _ (is : LineIs (latchFields s p) l) (last lit : ℕ) where
+  module _ (is : LineIs (eitherOf s 1 p) l) (last lit : ℕ) where
     pub latch-wrong : not (l .formed) ≡ true → fault WrongShape ≡ latchAt s last lit free p
     unfolding latchAt
-    latch-wrong h = judged-wrong (latchFields s p) l is h _
+    latch-wrong h = judged-wrong (eitherOf s 1 p) l is h _
 
     pub latch-other : not (l .formed) ≡ false → (getD (l .values) 0 0 ≡ lit → ⊥) → fault OutOfLimits ≡ latchAt s last lit free p
-    unfolding latchAt latchFits
-    latch-other h n = judged-as (latchFields s p) l is h _ _ (λ vs e. rw (← e 0) (rw (ne-eqb (getD (l .values) 0 0) lit n)))
+    unfolding latchAt
+    latch-other h n = judged-as (eitherOf s 1 p) l is h _ _ (λ vs e. rw (← e 0) (rw (ne-eqb (getD (l .values) 0 0) lit n)))
 
-    pub latch-past : not (l .formed) ≡ false → getD (l .values) 0 0 ≡ lit → last < getD (l .values) 1 0 → fault OutOfLimits ≡ latchAt s last lit free p
-    unfolding latchAt latchFits
-    latch-past h n m =
-        judged-as (latchFields s p) l is h _ _
-        (λ vs e. rw (← e 0, ← e 1) (rw (eq-eqb (getD (l .values) 0 0) lit n, lt-leb (getD (l .values) 1 0) last m)))
-
-    pub latch-next : not (l .formed) ≡ false → getD (l .values) 0 0 ≡ lit → getD (l .values) 1 0 ≤ last → (r : Row) → r ≡ resetRow lit (getD (l .values) 1 0) (getD (l .values) 2 0) free (l .next)
-        → r ≡ latchAt s last lit free p
-    unfolding latchAt latchFits resetRow
-    latch-next h n m r x =
-        judged-as (latchFields s p) l is h _ _
-        (λ vs e. rw (← e 0, ← e 1, ← e 2) (rw (eq-eqb (getD (l .values) 0 0) lit n, le-leb (getD (l .values) 1 0) last m) x))
+    pub latch-own : not (l .formed) ≡ false → getD (l .values) 0 0 ≡ lit → (r : Row) → r ≡ latchSays last lit free (getD (l .values) 1 0) (getD (l .values) 2 0) (l .next) → r ≡ latchAt s last lit free p
+    unfolding latchAt
+    latch-own h n r x =
+        judged-as (eitherOf s 1 p) l is h _ _
+        (λ vs e. rw (← e 0, ← e 1, ← e 2) (rw (eq-eqb (getD (l .values) 0 0) lit n) x))
 
   module _ (is : LineIs (fieldsOf s 2 p) l) (lit : ℕ) where
     pub gate-wrong : not (l .formed) ≡ true → fault WrongShape ≡ gateAt s lit free p

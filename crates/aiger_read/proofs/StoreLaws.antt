@@ -6,9 +6,9 @@ use native.Mathlib.Omega.{arith}
 use lib.ListN.{length, set}
 use lib.Seq.{sets}
 use Rattle.netlist.specs.declared.literals.Literal.{Literal}
-use Rattle.aiger_read.specs.declared.Literals.{Literals}
-use Rattle.aiger_read.specs.declared.Literals.the-variants.{None, One, Two}
-use Rattle.aiger_read.specs.Private.Steps.{numbersIn}
+use Rattle.aiger_lines.specs.declared.Literals.{Literals}
+use Rattle.aiger_lines.specs.declared.Literals.the-variants.{None, One, Two}
+use Rattle.aiger_lines.specs.Private.Steps.{numbersIn}
 
 abbrev pub Stored : Literals → List ℕ → List ℕ → ℕ → ℕ → Type 0
 Stored g net after at r = (after ≡ sets net at (numbersIn g)) × (r ≡ at + length (numbersIn g)) × (r ≤ at + 2)

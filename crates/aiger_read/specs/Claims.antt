@@ -12,8 +12,8 @@ use Rattle.netlist.specs.Literals.{literalOf}
 use Rattle.netlist.specs.Valid.{headerOk, isNetlist}
 use Rattle.aiger.specs.Rows.{headerRow, literalRow, gateRow}
 use Rattle.aiger.specs.Format.{inputLine, latchLine, outputLine, gateLine, fileWith, fileOf}
-use Rattle.aiger_read.specs.declared.Fault.{Fault}
-use Rattle.aiger_read.specs.declared.Fault.the-variants.{WrongShape, OutOfLimits}
+use Rattle.aiger_lines.specs.declared.Fault.{Fault}
+use Rattle.aiger_lines.specs.declared.Fault.the-variants.{WrongShape, OutOfLimits}
 use Rattle.aiger_read.specs.declared.Cause.the-variants.{TextTooLong, ShortBuffer, FaultyLine}
 use Rattle.aiger_read.specs.declared.ReadOutcome.the-variants.{Numbers, Refused}
 use Rattle.aiger_read.specs.Read.{refusalOf, readEnd, readOf}

@@ -1,5 +1,4 @@
 -- The root of the definitions that the contracts of aiger_read cite, in reading order.
-pub mod Fields
 pub mod Lines
 pub mod Files
 pub mod Read

@@ -7,8 +7,9 @@ use Prim.Native.Nat.{ℕ}
 use lib.Dec.{leb}
 use lib.ListN.{length, drop}
 use Rattle.text.specs.declared.Refusal.{Refusal}
-use Rattle.aiger_read.specs.Files.{Rows, rows, failed, fileRead}
-use Rattle.aiger_read.specs.declared.Fault.the-variants.{WrongShape, OutOfLimits}
+use Rattle.aiger_lines.specs.declared.Fault.the-variants.{WrongShape, OutOfLimits}
+use Rattle.aiger_lines.specs.Blocks.{Rows, rows, failed}
+use Rattle.aiger_read.specs.Files.{fileRead}
 use Rattle.aiger_read.specs.declared.Cause.{Cause}
 use Rattle.aiger_read.specs.declared.Cause.the-variants.{TextTooLong, ShortBuffer, FaultyLine}
 use Rattle.aiger_read.specs.declared.ReadOutcome.{ReadOutcome}

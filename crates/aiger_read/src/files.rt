@@ -1,45 +1,30 @@
 // One pass over a file. A number past the buffer's end is dropped, so that a pass over no numbers tells
 // how many there are.
 use crate::Block;
-use crate::Cursor;
-use crate::Fault;
-use crate::Head;
-use crate::HeadRead;
 use crate::Kind;
-use crate::LineRead;
-use crate::Literals;
-use crate::Passed;
-use crate::lines::header_at;
 use crate::lines::line_of;
+use aiger_lines::Cursor;
+use aiger_lines::Fault;
+use aiger_lines::Head;
+use aiger_lines::HeadRead;
+use aiger_lines::LineRead;
+use aiger_lines::Literals;
+use aiger_lines::Passed;
+use aiger_lines::header_at;
+use aiger_lines::store;
+use aiger_lines::store_head;
+use aiger_lines::store_pair;
 use netlist::Variable;
 ghost use mathlib.Core.Path.{_≡_};
-ghost use mathlib.Core.List.{[], _∷_};
-ghost use Prim.Native.Nat.{_+_, _*_, _<_, _≤_};
-ghost use lib.ListN.{length, set};
+ghost use Prim.Native.Nat.{_+_, _*_, _≤_};
+ghost use lib.ListN.{length};
 ghost use lib.Seq.{sets};
+ghost use Rattle.aiger_lines.specs.Private.Steps.{numbersIn, Took, Within, Counted};
 ghost use Rattle.aiger_read.specs.Files.{fileRead};
-ghost use Rattle.aiger_read.specs.Private.Steps.{numbersIn, firstOf, blockOf, inputsOf, latchesOf, outputsOf, gatesOf, Took, Within, Counted};
+ghost use Rattle.aiger_read.specs.Private.Steps.{firstOf, blockOf, inputsOf, latchesOf, outputsOf, gatesOf};
 
 // How many numbers the header gives.
 const HEADER: usize = 5;
-
-// A number into the buffer, where it has that place.
-fn store(net: &mut [u16], at: usize, v: u16)
-    ensures { λ _. ⌜ now (net .exit) ≡ set (now (net .entry)) at v ⌝ }
-{
-    if at < net.len() {
-        net[at] = v;
-    }
-}
-
-// Two numbers.
-fn store_pair(net: &mut [u16], at: usize, a: u16, b: u16)
-    requires { ⌜ at ≤ 200000 ⌝ }
-    ensures { λ _. ⌜ now (net .exit) ≡ sets (now (net .entry)) at (a ∷ b ∷ []) ⌝ }
-{
-    store(net, at, a);
-    store(net, at + 1, b);
-}
 
 // The literals of a line; the place after them.
 fn store_given(net: &mut [u16], at: usize, given: Literals) -> usize
@@ -57,15 +42,6 @@ fn store_given(net: &mut [u16], at: usize, given: Literals) -> usize
             at + 2
         }
     }
-}
-
-// The numbers of the header.
-fn store_head(net: &mut [u16], head: Head)
-    ensures { λ _. ⌜ now (net .exit) ≡ sets (now (net .entry)) 0 (head .variables ∷ head .inputs ∷ head .latches ∷ head .outputs ∷ head .gates ∷ []) ⌝ }
-{
-    store_pair(net, 0, head.variables, head.inputs);
-    store_pair(net, 2, head.latches, head.outputs);
-    store(net, 4, head.gates);
 }
 
 // The lines of a block, whose literals are stored from `from.place` on.
@@ -181,7 +157,7 @@ fn inputs_at(s: &[u8], net: &mut [u16], head: Head) -> Passed
 pub(crate) fn read_file(s: &[u8], net: &mut [u16]) -> Passed
     ensures { λ r. ⌜ Took (fileRead (now (s .entry))) (now (net .entry)) (now (net .exit)) 0 r ⌝ }
 {
-    match header_at(s) {
+    match header_at(s, b'a') {
         HeadRead::Good(head) => {
             store_head(net, head);
             inputs_at(s, net, head)

@@ -2,6 +2,8 @@
 // nothing of graphs. Exports that it takes exactly the files of netlists, explicit resets 0 allowed, that
 // reading what was written gives the same numbers, and at which line it tells a header out of limits, a
 // faulty output, a gate of the wrong shape and what stands behind the last line.
+use aiger_lines::Fault;
+use aiger_lines::Passed;
 use netlist::Literal;
 use netlist::Variable;
 use text::Refusal;
@@ -9,17 +11,8 @@ ghost use mathlib.Core.Path.{_≡_};
 ghost use Rattle.aiger_read.specs.Read.{refusalOf, readEnd, readOf};
 ghost use Rattle.aiger_read.specs.Claims.{ReadMeans};
 
-mod fields;
 mod files;
 mod lines;
-
-// Why a line is refused.
-pub enum Fault {
-    // Wrong shape, missing or extra.
-    WrongShape,
-    // Right shape, but it breaks order or limits.
-    OutOfLimits,
-}
 
 // Why a read is refused.
 pub enum Cause {
@@ -86,13 +79,6 @@ pub fn read(text: &[u8], net: &mut [u16]) -> ReadOutcome
     }
 }
 
-// The numbers of a line, 0 where there is none, and the place after its LF; or another shape.
-struct Line {
-    formed: bool,
-    values: [usize; 5],
-    next: usize,
-}
-
 // The kinds of lines after the header. Those of inputs, latches and gates have the variable of the first
 // one, and those of latches and outputs the largest literal.
 enum Kind {
@@ -102,58 +88,9 @@ enum Kind {
     Gate(Variable),
 }
 
-// What a line gives to the netlist: nothing, an output, or a latch's next and reset or a gate's operands.
-enum Literals {
-    None,
-    One(Literal),
-    Two(Literal, Literal),
-}
-
-// A line's literals, the uninitialised latches so far, and the place after the line.
-struct Given {
-    literals: Literals,
-    free: usize,
-    next: usize,
-}
-
-// A line that was read, or its fault.
-enum LineRead {
-    Good(Given),
-    Bad(Fault),
-}
-
-// The header's numbers, and the place after its line.
-struct Head {
-    variables: u16,
-    inputs: u16,
-    latches: u16,
-    outputs: u16,
-    gates: u16,
-    next: usize,
-}
-
-// A header that was read, or its fault.
-enum HeadRead {
-    Good(Head),
-    Bad(Fault),
-}
-
 // Lines of one kind: how many, and the line number of the first.
 struct Block {
     kind: Kind,
     count: u16,
     line: u32,
-}
-
-// How far a pass is: the uninitialised latches so far, the place in the text, and that in the netlist.
-struct Cursor {
-    free: usize,
-    at: usize,
-    place: usize,
-}
-
-// Lines that were read, or the first fault and its line.
-enum Passed {
-    Past(Cursor),
-    Failed(Fault, u32),
 }

@@ -16,7 +16,7 @@ use Rattle.aiger.specs.declared.Cause.the-variants as written
 use Rattle.aiger.specs.Write as write
 use Rattle.aiger_read.specs.declared.Cause as aigerRead
 use Rattle.aiger_read.specs.declared.Cause.the-variants as taken
-use Rattle.aiger_read.specs.declared.Fault.the-variants as faulty
+use Rattle.aiger_lines.specs.declared.Fault.the-variants as faulty
 use Rattle.aiger_read.specs.Read as read
 use Rattle.calls.specs.declared.refusal.Cause as simulator
 use Rattle.calls.specs.declared.refusal.Cause.the-variants as ran

@@ -2,8 +2,9 @@
 use mathlib.Core.Path.{refl}
 use Prim.Native.Nat.{_-_}
 use native.Mathlib.Omega.{arith}
-use Rattle.aiger_read.specs.Private.Steps.{kindAt, blockOf, Within}
-use Rattle.aiger_read.proofs.PassLaws.{Going, going-start, going-next, going-fault, going-done, row-good, row-bad}
+use Rattle.aiger_lines.specs.Private.Steps.{Within}
+use Rattle.aiger_lines.proofs.PassLaws.{Going, going-start, going-next, going-fault, going-done, row-good, row-bad}
+use Rattle.aiger_read.specs.Private.Steps.{kindAt, blockOf}
 use borrow.Author.Needs.{needs}
 use Rattle.aiger_read.proofs.files.block_at.Statement.{statement}
 use Rattle.aiger_read.proofs.files.block_at.Tie as tie

@@ -1,7 +1,7 @@
 -- `gates_at` meets its contract. Assumes nothing.
 use native.Mathlib.Omega.{arith}
+use Rattle.aiger_lines.proofs.PassLaws.{took-then, took-failed, took-end, took-extra}
 use Rattle.aiger_read.specs.Private.Steps.{kindAt, blockOf, gatesOf}
-use Rattle.aiger_read.proofs.PassLaws.{took-then, took-failed, took-end, took-extra}
 use borrow.Author.Needs.{needs}
 use Rattle.aiger_read.proofs.files.gates_at.Statement.{statement}
 use Rattle.aiger_read.proofs.files.gates_at.Tie as tie

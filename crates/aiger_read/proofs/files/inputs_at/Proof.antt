@@ -1,7 +1,7 @@
 -- `inputs_at` meets its contract. Assumes nothing.
+use Rattle.aiger_lines.proofs.PassLaws.{took-then, took-failed, within-past}
 use Rattle.aiger_read.specs.Files.{bodyOf}
 use Rattle.aiger_read.specs.Private.Steps.{kindAt, blockOf, inputsOf, latchesOf, outputsOf, gatesOf}
-use Rattle.aiger_read.proofs.PassLaws.{took-then, took-failed, within-past}
 use borrow.Author.Needs.{needs}
 use Rattle.aiger_read.proofs.files.inputs_at.Statement.{statement}
 use Rattle.aiger_read.proofs.files.inputs_at.Tie as tie

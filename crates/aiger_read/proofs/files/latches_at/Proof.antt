@@ -4,7 +4,8 @@ use mathlib.Core.Path.{refl}
 use denote.Ref.{now}
 use Rattle.netlist.proofs.LiteralLaws.{made}
 use native.Mathlib.Omega.{arith}
-use Rattle.aiger_read.proofs.PassLaws.{latches-then, latches-failed, within-past}
+use Rattle.aiger_lines.proofs.PassLaws.{within-past}
+use Rattle.aiger_read.proofs.PassLaws.{latches-then, latches-failed}
 use borrow.Author.Needs.{needs}
 use Rattle.aiger_read.proofs.files.latches_at.Statement.{statement}
 use Rattle.aiger_read.proofs.files.latches_at.Tie as tie

@@ -3,7 +3,8 @@ use mathlib.Core.Bool.{true}
 use denote.Ref.{now}
 use Rattle.netlist.proofs.LiteralLaws.{made}
 use native.Mathlib.Omega.{arith}
-use Rattle.aiger_read.proofs.PassLaws.{outputs-then, outputs-failed, within-past}
+use Rattle.aiger_lines.proofs.PassLaws.{within-past}
+use Rattle.aiger_read.proofs.PassLaws.{outputs-then, outputs-failed}
 use borrow.Author.Needs.{needs}
 use Rattle.aiger_read.proofs.files.outputs_at.Statement.{statement}
 use Rattle.aiger_read.proofs.files.outputs_at.Tie as tie

@@ -1,6 +1,8 @@
 -- `read_file` meets its contract. Assumes nothing.
-use mathlib.Core.Path.{refl}
-use Rattle.aiger_read.proofs.PassLaws.{file-good, took-file, took-bad}
+use Rattle.aiger_lines.proofs.HeadLaws.{head-counted}
+use Rattle.aiger_lines.proofs.PassLaws.{took-head, took-misheaded}
+use Rattle.aiger_read.specs.Files.{bodyOf, fileRead}
+use Rattle.aiger_read.specs.Private.Steps.{inputsOf}
 use borrow.Author.Needs.{needs}
 use Rattle.aiger_read.proofs.files.read_file.Statement.{statement}
 use Rattle.aiger_read.proofs.files.read_file.Tie as tie
@@ -17,7 +19,7 @@ store-head-requires c κs = search needs
 inputs-at-requires : tie.Need-inputs-at-requires
 inputs-at-requires c κs =
     let h = c .before .before .before .before .before .before in
-    file-good _ _ _ (h .before .before .header-at .ensures) (h .head .given .1) .1
+    head-counted _ _ _ _ (h .before .before .header-at .ensures) (h .head .given .1)
 
 enum-known-fault : tie.Need-enum-known-fault
 enum-known-fault c = search needs
@@ -26,16 +28,18 @@ same-length : tie.Need-same-length
 same-length c = search needs
 
 returns : tie.Need-returns
+unfolding fileRead inputsOf
 returns c =
     let i = c .before .before in
     let s = i .before .before .before .before in
     let h = s .before .before .before in
-    took-file _ _ _ _ _ _ _ _ (file-good _ _ _ (h .before .before .header-at .ensures) (h .head .given .1) .0) (s .store-head .ensures) refl (i .inputs-at .ensures)
+    took-head _ _ (h .before .before .header-at .ensures) (bodyOf _) _ _ _ _ _ (h .head .given .1) (s .store-head .ensures) (i .inputs-at .ensures)
 
 returns-2 : tie.Need-returns-2
+unfolding fileRead
 returns-2 c =
     let f = c .before in
-    took-bad _ _ _ _ _ (f .before .before .header-at .ensures) (f .fault .given .1)
+    took-misheaded _ _ (f .before .before .header-at .ensures) (bodyOf _) _ _ _ (f .fault .given .1)
 
 pub read-file-spec : {M : Type 1} → statement M
 read-file-spec =

@@ -1,17 +1,17 @@
 -- `gate_line` meets its contract. Assumes nothing.
 use native.Mathlib.Omega.{arith}
-use Rattle.aiger_read.specs.Private.Steps.{numbersIn, rowIn}
+use Rattle.aiger_lines.specs.Private.Steps.{numbersIn, rowIn}
 use Rattle.aiger_read.proofs.RowLaws.{gate-wrong, gate-other, gate-above, gate-order, gate-good}
 use borrow.Author.Needs.{needs}
 use Rattle.aiger_read.proofs.lines.gate_line.Statement.{statement}
 use Rattle.aiger_read.proofs.lines.gate_line.Tie as tie
 
-fields-at-requires : tie.Need-fields-at-requires
-fields-at-requires c κs = search needs
+three-numbers-requires : tie.Need-three-numbers-requires
+three-numbers-requires c κs = search needs
 
 returns : tie.Need-returns
 unfolding rowIn
-returns c = gate-wrong _ _ _ _ (c .before .before .fields-at .ensures) _ (c .if1 .taken)
+returns c = gate-wrong _ _ _ _ (c .before .before .three-numbers .ensures) _ (c .if1 .taken)
 
 array-read-if2 : tie.Need-array-read-if2
 array-read-if2 c = search needs
@@ -23,7 +23,7 @@ returns-2 : tie.Need-returns-2
 unfolding rowIn
 returns-2 c =
     let i = c .before .before .before in
-    gate-other _ _ _ _ (i .before .before .fields-at .ensures) _ (i .if1 .left) (λ e. omega arith)
+    gate-other _ _ _ _ (i .before .before .three-numbers .ensures) _ (i .if1 .left) (λ e. omega arith)
 
 array-read-if3 : tie.Need-array-read-if3
 array-read-if3 c = search needs
@@ -35,7 +35,7 @@ returns-3 : tie.Need-returns-3
 unfolding rowIn
 returns-3 c =
     let i = c .before .before .before .before .before in
-    gate-above _ _ _ _ (i .before .before .fields-at .ensures) _ (i .if1 .left) (omega arith) (omega arith)
+    gate-above _ _ _ _ (i .before .before .three-numbers .ensures) _ (i .if1 .left) (omega arith) (omega arith)
 
 array-read-if4 : tie.Need-array-read-if4
 array-read-if4 c = search needs
@@ -47,7 +47,7 @@ returns-4 : tie.Need-returns-4
 unfolding rowIn
 returns-4 c =
     let i = c .before .before .before .before .before .before in
-    gate-order _ _ _ _ (i .before .before .fields-at .ensures) _ (i .if1 .left) (omega arith) (omega arith) (omega arith)
+    gate-order _ _ _ _ (i .before .before .three-numbers .ensures) _ (i .if1 .left) (omega arith) (omega arith) (omega arith)
 
 array-read-t11 : tie.Need-array-read-t11
 array-read-t11 c = search needs
@@ -65,13 +65,13 @@ returns-5 : tie.Need-returns-5
 unfolding rowIn numbersIn
 returns-5 c =
     let i = c .before .before .before .before .before .before in
-    gate-good _ _ _ _ (i .before .before .fields-at .ensures) _ (i .if1 .left) (omega arith) (omega arith) (omega arith)
+    gate-good _ _ _ _ (i .before .before .three-numbers .ensures) _ (i .if1 .left) (omega arith) (omega arith) (omega arith)
 
 pub gate-line-spec : {M : Type 1} → statement M
 gate-line-spec =
     tie.close
     (tie.spec
-    fields-at-requires
+    three-numbers-requires
     returns
     array-read-if2
     cast-if2

@@ -38,9 +38,12 @@
        12     0      a buffer is too short
        13     its    AIGER: line of wrong shape, missing or extra
        14     its    AIGER: line of right shape that breaks order or limits
+       14     0      packed AIGER: difference that gives no allowed operand
        15     its    trace: wrong line, counted in its own trace; a step's cycle is line 1
        16     0      the numbers are no netlist
        17     0      a number of the tally would pass 4,294,967,295 if each new cycle were added to it
+       18     0      packed AIGER: byte run that is missing, over three bytes, unfinished or not shortest, or
+                     bytes after the last gate
        19     its    graph: in a formula, names of unequal widths compared, a bit beyond the width, or a name of
                      several bits where one bit is due
        21     0      tally: no cycle, or more rejected than cycles
@@ -49,10 +52,11 @@
        26     0      width of lines outside 1 to 64
 
      Lines count from 1; the first faulty line decides, and in it the lower number, also where an edge's two
-     formulas have one each. Build checks 1, the lines, 10, 11, 12; read 1, the lines, 12; write and start 16,
-     12; step 16, 15, 12, 17; run 1, then as step; per million 21; broken check 1 of either trace, 26, 15 of the
-     flywheel trace, 15 of the handle trace, 25; session page 1, 22, 12. A call whose name ends in _checked
-     checks what the one without it checks, in the same order.
+     formulas have one each. Build checks 1, the lines, 10, 11, 12; read 1, the lines, then of a packed file its
+     byte runs in order, each for 18 before 14, then 12; write, packed write and start 16, 12; step 16, 15, 12,
+     17; run 1, then as step; per million 21; broken check 1 of either trace, 26, 15 of the flywheel trace, 15 of
+     the handle trace, 25; session page 1, 22, 12. A call whose name ends in _checked checks what the one without
+     it checks, in the same order.
 
    Netlist: uint16_t numbers, 5 + 2L + O + 2A of them, at most 8,195
      M I L O A               highest variable, inputs, latches, outputs, AND gates
@@ -115,7 +119,17 @@ uint64_t ludo_build_checked(const uint8_t *graph, size_t graph_len, uint16_t *ne
 /* Writes the AIGER ASCII file of a netlist into `text`; `*length` is its number of bytes, at most 65,536. */
 uint64_t ludo_write(const uint16_t *net, size_t net_len, uint8_t *text, size_t text_len, uint64_t *length);
 
-/* Reads the AIGER ASCII file `text` into `net`; `*length` is the number of numbers of its netlist. */
+/* Writes the AIGER binary file of a netlist, the packed form, into `bytes`; `*length` is its number of bytes, at
+   most 28,706. Its lines are the header, whose first word is aig, then next for each latch, and reset after it
+   where that is not 0, then the outputs. After them stand two byte runs for each gate, for g - r0 and r0 - r1:
+   seven bits a byte, the lowest first, the top bit set where more follow. */
+uint64_t ludo_write_packed(const uint16_t *net, size_t net_len, uint8_t *bytes, size_t bytes_len, uint64_t *length);
+
+/* Reads the AIGER file `text` into `net`; `*length` is the number of numbers of its netlist. Where the file
+   begins with aig and a blank it is read as packed, else as ASCII; a netlist written in either form reads as the
+   same netlist. A byte run is in no line, so what is refused there, with 18 or 14, is told with line 0. The
+   reader also takes a reset of 0 that is written out; it takes nothing after the last gate, no symbols and no
+   comment. */
 uint64_t ludo_read(const uint8_t *text, size_t text_len, uint16_t *net, size_t net_len, uint64_t *length);
 
 /* Begins a run of a netlist: fills the first L words of `latches` and sets the tally, `*cycles` and

@@ -1,10 +1,12 @@
 #!/usr/bin/env python3
-"""Writes stdin and stdout of the program page_cases beside this file: inputs of monitor and graph2aiger, each with the
-page that document 01 asks for, with the verdict, the widths and the terminal edges of document 02 (No. 2, 3 and 5). The
-pages are written here by hand or worked out from the documents, case by case; nothing is computed by the programs.
+"""Writes stdin and stdout of the program page_cases beside this file: inputs of monitor, graph2aiger and graph2aig, each
+with the page that document 01 asks for, with the binary format, the verdict, the widths and the terminal edges of
+document 02 (No. 1, 2, 3 and 5). The pages are written here by hand or worked out from the documents, case by case;
+nothing is computed by the programs.
 
-A case in stdin is a line `LENGTH<tab>LABEL` and then that many bytes; a label starts with `m` for the monitor's page
-and `a` for AIGER's. In stdout it is the label's line and then the page."""
+A case in stdin is a line `LENGTH<tab>LABEL` and then that many bytes; a label starts with `m` for the monitor's page,
+`a` for that of AIGER text and `p` for that of AIGER in the binary format. In stdout it is the label's line and then the
+page."""
 import os
 
 here = os.path.dirname(os.path.abspath(__file__))
@@ -38,6 +40,12 @@ def wrong(label, trace, line, graph=None):
 def aiger(label, text, file):
     """Lines of the file parted by commas."""
     cases.append(("a " + label, text, b"".join(l.strip().encode() + b"\n" for l in file.split(","))))
+
+
+def packed(label, text, file, gates):
+    """Lines of the file parted by commas, and the bytes of its gates."""
+    start = b"".join(l.strip().encode() + b"\n" for l in file.split(","))
+    cases.append(("p " + label, text, start + bytes.fromhex(gates)))
 
 
 G = ["S p", "S q", "V a", "V b", "E a b t p q"]
@@ -368,6 +376,27 @@ aiger(
     "aag 106 33 2 1 71," + ",".join(str(2 * n) for n in range(1, 34)) + ", 68 206, 70 213, 212, 72 68 3, 74 70 3, 76 73 3,"
     + ",".join(bits + joins) + ", 204 202 77, 206 204 1, 208 204 0, 210 202 74, 212 211 209",
 )
+
+# ---- AIGER files in the binary format: document 02, No. 1
+packed("graph G", lines(*G), "aig 12 3 2 1 7, 18, 25, 24", "04 05 04 07 0c 02 02 0a 04 09 12 04 01 02")
+packed(
+    "bits of a constant",
+    lines("K k 2", "V v", "E v v t k[1] k[0]"),
+    "aig 13 1 4 1 8, 4 4, 6 6, 20, 27, 26",
+    "04 05 04 07 03 0a 01 0b 02 0e 04 0d 0a 08 01 02",
+)
+# gates 134 130 3, 136 132 3, 138 135 3, 140 139 128, 142 140 1, 144 140 0, 146 136 128, 148 147 145
+packed(
+    "runs of two bytes",
+    lines(*FOUR, "E v v t w[14] 1"),
+    "aig 74 64 2 1 8, 142, 149, 148",
+    "04 7f 04 81 01 03 84 01 01 0b 02 8b 01 04 8c 01 0a 08 01 02",
+)
+packed("one vertex", lines("V a"), "aig 1 1 0 1 0, 1", "")
+page("p 7: two bits are no formula", lines("V a", "E a a t 10 1"), "refused 7 2")
+page("p 10: empty input", b"", "refused 10 0")
+page("p 11: M is 4,096", full("0&0&0"), "refused 11 0")
+page("p T is no record", lines(*G, "T", "110"), "refused 2 6")
 
 # ---- 11 by `==`. In 254 bytes 51 times 16 bits: 51 x 63 gates and 50 that join them. 10 edges with it on both sides cost
 # 10 x 6,526 + 98, and one more, with 6 times `==` and 1, 383 + 10: in 16 bits that would be 215. 63 such edges ask for 411,766.

@@ -1,12 +1,12 @@
 -- A netlist and its files are settled by the numbers that its header counts: surplus numbers say nothing. Assumes nothing.
-use mathlib.Core.Path.{_≡_, refl, sym, ap₂, _∙_}
+use mathlib.Core.Path.{_≡_, refl, sym, ap, ap₂, _∙_}
 use mathlib.Core.Bool.{Bool, true, _&&_}
 use mathlib.Core.List.{List}
 use Prim.Native.Nat.{ℕ, zero, suc, _+_, _<_, _≤_}
 use native.Mathlib.Omega.{arith}
 use borrow.Author.Tests.{le-leb}
 use lib.Dec.{leb}
-use lib.ListN.{length, getD, take}
+use lib.ListN.{length, getD, take, length-take}
 use lib.Seq.{getD-take, length-take-le}
 use Rattle.text.proofs.WriterLaws.{joined-same}
 use Rattle.netlist.specs.Layout.{maximum, inputCount, latchCount, outputCount, gateCount, nextAt, resetAt, outputAt, operandsAt, sizeOf}
@@ -19,19 +19,19 @@ use Rattle.aiger.specs.Format.{latchLine, outputLine, gateLine, fileWith
 -- ---- two lists with the same numbers, as far as the header of the second counts
 
 module _ (a b : List ℕ) (same : (i : ℕ) → i < sizeOf b → getD a i 0 ≡ getD b i 0) where
-  maximum-same : maximum a ≡ maximum b
+  pub maximum-same : maximum a ≡ maximum b
   maximum-same = same 0 (omega arith)
 
-  inputs-same : inputCount a ≡ inputCount b
+  pub inputs-same : inputCount a ≡ inputCount b
   inputs-same = same 1 (omega arith)
 
-  latches-same : latchCount a ≡ latchCount b
+  pub latches-same : latchCount a ≡ latchCount b
   latches-same = same 2 (omega arith)
 
-  outputs-same : outputCount a ≡ outputCount b
+  pub outputs-same : outputCount a ≡ outputCount b
   outputs-same = same 3 (omega arith)
 
-  gates-same : gateCount a ≡ gateCount b
+  pub gates-same : gateCount a ≡ gateCount b
   gates-same = same 4 (omega arith)
 
   size-same : sizeOf a ≡ sizeOf b
@@ -43,7 +43,7 @@ module _ (a b : List ℕ) (same : (i : ℕ) → i < sizeOf b → getD a i 0 ≡ 
   unfolding latchLine
   latch-line-same explicit k h = rw (inputs-same, same (nextAt k) (omega arith), same (resetAt k) (omega arith))
 
-  output-line-same : (k : ℕ) → k < outputCount b → outputLine a k ≡ outputLine b k
+  pub output-line-same : (k : ℕ) → k < outputCount b → outputLine a k ≡ outputLine b k
   unfolding outputLine
   output-line-same k h = rw (latches-same, same (outputAt b k) (omega arith))
 
@@ -136,3 +136,14 @@ trimmed-length net e = length-take-le (sizeOf net) net (valid net e .long)
 
 pub trimmed-netlist : (net : List ℕ) → isNetlist net ≡ true → isNetlist (take (sizeOf net) net) ≡ true
 trimmed-netlist net e = let l = trimmed-length net e in netlist-same (take (sizeOf net) net) net (trimmed-same net) e (omega arith)
+
+-- ---- numbers whose front is a netlist's
+
+module _ (a b : List ℕ) (e : take (sizeOf b) a ≡ take (sizeOf b) b) where
+  pub fronts-same : (i : ℕ) → i < sizeOf b → getD a i 0 ≡ getD b i 0
+  fronts-same i l = sym (getD-take (sizeOf b) a i 0 l) ∙ ap (λ (x : List ℕ). getD x i 0) e ∙ trimmed-same b i l
+
+  pub fronts-netlist : isNetlist b ≡ true → isNetlist a ≡ true
+  fronts-netlist h =
+      let long : sizeOf b ≤ length a = omega (arith, ap length e, trimmed-length b h, length-take (sizeOf b) a) in
+      netlist-same a b fronts-same h long

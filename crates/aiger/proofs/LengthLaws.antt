@@ -24,7 +24,7 @@ use Rattle.aiger.specs.Format.{inputLine, latchLine, outputLine, gateLin
 digits-four : (n : ℕ) → n < 10000 → length (digits n) ≤ 4
 digits-four n h = digits-length 3 n (omega arith)
 
-line-one : (n : ℕ) → n < 10000 → length (line n []) ≤ 5
+pub line-one : (n : ℕ) → n < 10000 → length (line n []) ≤ 5
 unfolding line
 line-one n h = rw length-append (omega (arith, digits-four n h))
 
@@ -32,7 +32,7 @@ line-more : (n m : ℕ) (ms : List ℕ) → n < 10000 → length (line n (m ∷ 
 unfolding line
 line-more n m ms h = rw (length-append (digits n) (32 ∷ line m ms)) (omega (arith, digits-four n h))
 
-line-two : (a b : ℕ) → a < 10000 → b < 10000 → length (line a (b ∷ [])) ≤ 10
+pub line-two : (a b : ℕ) → a < 10000 → b < 10000 → length (line a (b ∷ [])) ≤ 10
 line-two a b ha hb = omega (arith, line-more a b [] ha, line-one b hb)
 
 line-three : (a b c : ℕ) → a < 10000 → b < 10000 → c < 10000 → length (line a (b ∷ c ∷ [])) ≤ 15
@@ -68,12 +68,12 @@ joined-length f c (suc n) h =
 
 module _ (net : List ℕ) (e : isNetlist net ≡ true) where
   -- a literal of the netlist has at most four digits
-  small : (lit : ℕ) → variableOf lit ≤ maximum net → lit < 10000
+  pub small : (lit : ℕ) → variableOf lit ≤ maximum net → lit < 10000
   unfolding variableOf
   small lit h = let v = valid net e in omega arith
 
   -- and so has the literal of a variable of it
-  own : (var : ℕ) → var ≤ maximum net → literalOf var false < 10000
+  pub own : (var : ℕ) → var ≤ maximum net → literalOf var false < 10000
   own var h = let v = valid net e in omega (arith, literal-plain var)
 
   input-length : (k : ℕ) → k < inputCount net → length (inputLine k) ≤ 5
@@ -90,7 +90,7 @@ module _ (net : List ℕ) (e : isNetlist net ≡ true) where
       let r : reset < 10000 = ⊎-elim (λ s. omega arith) (λ s. omega arith) (v .resets k h) in
       latch-length (explicit k) (literalOf (latchVariable net k) false) next reset o (small next (v .nexts k h)) r
 
-  output-length : (k : ℕ) → k < outputCount net → length (outputLine net k) ≤ 5
+  pub output-length : (k : ℕ) → k < outputCount net → length (outputLine net k) ≤ 5
   unfolding outputLine
   output-length k h = let lit = getD net (outputAt net k) 0 in literal-length lit (small lit (valid net e .outputs k h))
 

@@ -26,9 +26,12 @@ pub record WriteEnd : Type 0 where
 abbrev pub writeEnd : Written → List ℕ → WriteEnd
 writeEnd r t = record { answer = r; text = t }
 
-unfoldable pub writeOf : List ℕ → List ℕ → WriteEnd
-writeOf net text =
-    let file = fileOf net in
+-- of a file, the numbers that it was made of, and the buffer
+unfoldable pub writeAs : List ℕ → List ℕ → List ℕ → WriteEnd
+writeAs file net text =
     cond (not (isNetlist net)) (writeEnd (Refused NotNetlist) text)
     (cond (not (leb (length file) (length text))) (writeEnd (Refused ShortBuffer) text)
     (writeEnd (Bytes (length file)) (file ++ drop (length file) text)))
+
+unfoldable pub writeOf : List ℕ → List ℕ → WriteEnd
+writeOf net text = writeAs (fileOf net) net text

@@ -1,4 +1,5 @@
-// The AIGER ASCII format: the file of a netlist, written into a lent buffer. Knows nothing of graphs.
+// The AIGER ASCII format: the file of a netlist, written into a lent buffer, with the writers of those of its
+// lines that the binary format has too. Knows nothing of graphs.
 // Exports that a netlist is written exactly where there is room for its file, that no file has more than
 // 65,536 bytes, and that surplus numbers change nothing.
 use netlist::Literal;
@@ -15,9 +16,9 @@ ghost use Prim.Native.Nat.{_+_, _*_, _<_, _≤_};
 ghost use lib.ListN.{length, getD};
 ghost use Rattle.text.specs.Numbers.{digits};
 ghost use Rattle.text.specs.Writer.{Wrote, joined};
-ghost use Rattle.netlist.specs.Layout.{maximum, inputCount, latchCount, outputCount, gateCount, sizeOf, latchVariable};
+ghost use Rattle.netlist.specs.Layout.{inputCount, latchCount, outputCount, gateCount, sizeOf, latchVariable};
 ghost use Rattle.netlist.specs.Literals.{literalOf};
-ghost use Rattle.aiger.specs.Rows.{line, headerRow, literalRow, latchRow, gateRow};
+ghost use Rattle.aiger.specs.Rows.{line, literalRow, latchRow, gateRow};
 ghost use Rattle.aiger.specs.Format.{inputLine, latchLine, outputLine, gateLine, fileOf};
 ghost use Rattle.aiger.specs.Write.{refusalOf, writeEnd, writeOf};
 ghost use Rattle.aiger.specs.Claims.{WriteMeans};
@@ -67,7 +68,7 @@ fn put_field(text: &mut [u8], at: usize, number: u16, after: u8) -> usize
 }
 
 // Appends a line of two numbers.
-fn put_two(text: &mut [u8], at: usize, a: u16, b: u16) -> usize
+pub fn put_two(text: &mut [u8], at: usize, a: u16, b: u16) -> usize
     ensures { λ r. ⌜ Wrote (now (text .entry)) (now (text .exit)) at r (line a (b ∷ [])) ⌝ }
 {
     let p = put_field(text, at, a, b' ');
@@ -82,29 +83,46 @@ fn put_three(text: &mut [u8], at: usize, a: u16, b: u16, c: u16) -> usize
     put_two(text, p, b, c)
 }
 
-// Appends the header line, from the netlist's first five numbers.
-fn put_header(text: &mut [u8], at: usize, net: &[u16]) -> usize
-    requires { ⌜ 5 ≤ length (now net) ⌝ }
+// Appends the header line: the form's tag with its blank, and the five numbers.
+pub fn put_header(
+    text: &mut [u8],
+    at: usize,
+    tag: &[u8],
+    m: u16,
+    i: u16,
+    l: u16,
+    o: u16,
+    a: u16,
+) -> usize
     ensures { λ r. ⌜ Wrote (now (text .entry)) (now (text .exit)) at r
-        (headerRow (maximum (now (net .entry))) (inputCount (now (net .entry))) (latchCount (now (net .entry)))
-        (outputCount (now (net .entry))) (gateCount (now (net .entry)))) ⌝ }
+        (now (tag .entry) ++ line m (i ∷ l ∷ o ∷ a ∷ [])) ⌝ }
 {
-    let m = net[0];
-    let i = net[1];
-    let l = net[2];
-    let o = net[3];
-    let a = net[4];
-    let p1 = put_bytes(text, at, b"aag ");
+    let p1 = put_bytes(text, at, tag);
     let p2 = put_field(text, p1, m, b' ');
     let p3 = put_field(text, p2, i, b' ');
     put_three(text, p3, l, o, a)
 }
 
 // Appends the line of an input or an output.
-fn put_literal_row(text: &mut [u8], at: usize, lit: Literal) -> usize
+pub fn put_literal_row(text: &mut [u8], at: usize, lit: Literal) -> usize
     ensures { λ r. ⌜ Wrote (now (text .entry)) (now (text .exit)) at r (literalRow (lit .0)) ⌝ }
 {
     put_field(text, at, lit.0, b'\n')
+}
+
+// Appends the lines of literals that stand one after the other.
+pub fn put_literals(text: &mut [u8], at: usize, literals: &[u16]) -> usize
+    ensures { λ r. ⌜ Wrote (now (text .entry)) (now (text .exit)) at r
+        (joined (λ k. literalRow (getD (now (literals .entry)) k 0)) (length (now (literals .entry)))) ⌝ }
+{
+    let mut p = at;
+    let mut k = 0;
+    while k < literals.len() {
+        let lit = literals[k];
+        p = put_literal_row(text, p, Literal(lit));
+        k += 1;
+    }
+    p
 }
 
 // Appends the line of a latch: the reset 0, which is false's literal, is not written.
@@ -165,20 +183,6 @@ fn put_latches(text: &mut [u8], at: usize, net: &[u16], first: Variable, count: 
     p
 }
 
-// Appends the lines of the first `count` outputs, which stand from `from` on.
-fn put_outputs(text: &mut [u8], at: usize, net: &[u16], from: usize, count: u16) -> usize
-    requires { ⌜ from ≡ 5 + 2 * latchCount (now net) ⌝ }
-    requires { ⌜ from + count ≤ length (now net) ⌝ }
-    ensures { λ r. ⌜ Wrote (now (text .entry)) (now (text .exit)) at r (joined (outputLine (now (net .entry))) count) ⌝ }
-{
-    let mut p = at;
-    for k in 0..count {
-        let lit = net[from + k as usize];
-        p = put_literal_row(text, p, Literal(lit));
-    }
-    p
-}
-
 // Appends the line of the gate whose variable is `own` and whose operands stand at `from`.
 fn put_gate(text: &mut [u8], at: usize, net: &[u16], from: usize, own: Variable) -> usize
     requires { ⌜ (from + 1 < length (now net)) × (own .0 < 32768) ⌝ }
@@ -227,7 +231,7 @@ fn put_logic(text: &mut [u8], at: usize, net: &[u16]) -> usize
     let a = net[4];
     let outputs = HEADER + 2 * (l as usize);
     let operands = outputs + o as usize;
-    let p = put_outputs(text, at, net, outputs, o);
+    let p = put_literals(text, at, &net[outputs..operands]);
     put_gates(text, p, net, operands, Variable(i + l + 1), a)
 }
 
@@ -237,9 +241,12 @@ fn put_file(text: &mut [u8], at: usize, net: &[u16]) -> usize
         × (inputCount (now net) + latchCount (now net) + gateCount (now net) ≤ 4095) ⌝ }
     ensures { λ r. ⌜ Wrote (now (text .entry)) (now (text .exit)) at r (fileOf (now (net .entry))) ⌝ }
 {
+    let m = net[0];
     let i = net[1];
     let l = net[2];
-    let p1 = put_header(text, at, net);
+    let o = net[3];
+    let a = net[4];
+    let p1 = put_header(text, at, b"aag ", m, i, l, o, a);
     let p2 = put_inputs(text, p1, i);
     let p3 = put_latches(text, p2, net, Variable(i + 1), l);
     put_logic(text, p3, net)

@@ -1,5 +1,5 @@
 -- The header, test by test, and that it is read just where its text stands. Assumes nothing.
-use mathlib.Core.Path.{_≡_, refl, sym, ap, _∙_}
+use mathlib.Core.Path.{_≡_, refl, sym, ap, _∙_, subst}
 use mathlib.Core.Bool.{Bool, true, false, cond, not, _&&_, true≢false}
 use mathlib.Core.List.{List, [], _∷_, _++_}
 use Prim.Native.Nat.{ℕ, _≤_, _<_}
@@ -75,7 +75,16 @@ four (a ∷ b ∷ []) h = absurd (omega arith)
 four (a ∷ b ∷ c ∷ []) h = absurd (omega arith)
 four (a ∷ b ∷ c ∷ d ∷ s) h = refl
 
-tag-at : (second : ℕ) (s : List ℕ) → hasTag second s ≡ true → At s 0 (97 ∷ second ∷ 103 ∷ 32 ∷ []) 4
+five : (vs : List ℕ) → length vs ≡ 5 → vs ≡ getD vs 0 0 ∷ getD vs 1 0 ∷ getD vs 2 0 ∷ getD vs 3 0 ∷ getD vs 4 0 ∷ []
+five [] h = absurd (omega arith)
+five (a ∷ []) h = absurd (omega arith)
+five (a ∷ b ∷ []) h = absurd (omega arith)
+five (a ∷ b ∷ c ∷ []) h = absurd (omega arith)
+five (a ∷ b ∷ c ∷ d ∷ []) h = absurd (omega arith)
+five (a ∷ b ∷ c ∷ d ∷ e ∷ []) h = refl
+five (a ∷ b ∷ c ∷ d ∷ e ∷ f ∷ vs) h = absurd (omega arith)
+
+pub tag-at : (second : ℕ) (s : List ℕ) → hasTag second s ≡ true → At s 0 (97 ∷ second ∷ 103 ∷ 32 ∷ []) 4
 unfolding hasTag
 tag-at second s h =
     let b1 = both (eqb (getD s 0 0) 97) (eqb (getD s 1 0) second && (eqb (getD s 2 0) 103 && eqb (getD s 3 0) 32)) h in
@@ -114,13 +123,9 @@ module _ (second : ℕ) (s : List ℕ) where
     fields-head : (x : Fields) → fieldsOf s 4 4 ≡ x → hasTag second s ≡ true → headed x ≡ heading m i l o a q → HeadAt second s m i l o a q
     unfolding headed
     fields-head wrong e t h = absurd (misheaded-heading h)
-    fields-head (fields (v ∷ w ∷ x ∷ y ∷ z ∷ []) r) e t h = five-head v w x y z r (headerOk v w x y z) refl t e h
-    fields-head (fields [] r) e t h = absurd (omega (arith, fields-length s 4 4 _ r e))
-    fields-head (fields (v ∷ []) r) e t h = absurd (omega (arith, fields-length s 4 4 _ r e))
-    fields-head (fields (v ∷ w ∷ []) r) e t h = absurd (omega (arith, fields-length s 4 4 _ r e))
-    fields-head (fields (v ∷ w ∷ x ∷ []) r) e t h = absurd (omega (arith, fields-length s 4 4 _ r e))
-    fields-head (fields (v ∷ w ∷ x ∷ y ∷ []) r) e t h = absurd (omega (arith, fields-length s 4 4 _ r e))
-    fields-head (fields (v ∷ w ∷ x ∷ y ∷ z ∷ u ∷ vs) r) e t h = absurd (omega (arith, fields-length s 4 4 _ r e))
+    fields-head (fields vs r) e t h =
+        let is = five vs (fields-length s 4 4 vs r e) in
+        five-head (getD vs 0 0) (getD vs 1 0) (getD vs 2 0) (getD vs 3 0) (getD vs 4 0) r (headerOk (getD vs 0 0) (getD vs 1 0) (getD vs 2 0) (getD vs 3 0) (getD vs 4 0)) refl t (e ∙ ap (λ (l : List ℕ). fields l r) is) h
 
     -- SOUND
     pub head-at : headAt second s ≡ heading m i l o a q → HeadAt second s m i l o a q
@@ -148,6 +153,19 @@ module _ (second : ℕ) (s : List ℕ) where
       pub head-fault : headerOk m i l o a ≡ false → headAt second s ≡ misheaded OutOfLimits
       unfolding headed
       head-fault e = head-numbers ∙ rw e
+
+  -- NONE: where no header stands
+  pub head-none : ((m i l o a q : ℕ) → Small (m ∷ i ∷ l ∷ o ∷ a ∷ []) → At s 0 (headText second m i l o a) q → ⊥) → headAt second s ≡ misheaded WrongShape
+  unfolding headAt headed lineOf
+  head-none none = go (hasTag second s) refl (fieldsOf s 4 4) refl
+    where
+      go : (t : Bool) → hasTag second s ≡ t → (x : Fields) → fieldsOf s 4 4 ≡ x → cond t (headed x) (misheaded WrongShape) ≡ misheaded WrongShape
+      go false t x e = refl
+      go true t wrong e = refl
+      go true t (fields vs r) e =
+          let is = five vs (fields-length s 4 4 vs r e) in
+          let w = fields-stand s 4 4 vs r e in
+          absurd (none (getD vs 0 0) (getD vs 1 0) (getD vs 2 0) (getD vs 3 0) (getD vs 4 0) r (subst Small is (w .small)) (at-join (tag-at second s t) (subst (λ (l : List ℕ). At s 4 (lineOf l) r) is (w .at))))
 
   -- no count of a header that was read wraps
   pub head-counted : (r : HeadRead) (h : Head) → headIn r ≡ headAt second s → r ≡ Good h → Counted h

@@ -7,6 +7,7 @@ pub mod PlaceLaws
 pub mod FieldLaws
 pub mod HeadLaws
 pub mod TextLaws
+pub mod StoreLaws
 pub mod PassLaws
 pub mod ReadLaws
 pub mod RunLaws

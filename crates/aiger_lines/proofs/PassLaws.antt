@@ -124,18 +124,18 @@ module _ (at : ℕ → ℕ → ℕ → Row) (count line f₀ p₀ : ℕ) (net₀
       record { within = omega arith; same = refl; bound = omega arith; rest = λ after r t. rw (a, b) at t }
 
   module _ {net : List ℕ} {k f p place : ℕ} (g : Going at count line f₀ p₀ net₀ place₀ net k f p place) where
-    pub going-next : (ns : List ℕ) (free q : ℕ) {net′ : List ℕ} {place′ : ℕ} → k < count → at k f p ≡ row ns free q → net′ ≡ sets net place ns → place′ ≡ place + length ns → place′ ≤ place + 2
-        → Going at count line f₀ p₀ net₀ place₀ net′ (k + 1) free q place′
+    pub going-next : (ns : List ℕ) (free q : ℕ) {net′ : List ℕ} {n : ℕ} → k < count → at k f p ≡ row ns free q → net′ ≡ sets net place ns → n ≡ length ns → n ≤ 2
+        → Going at count line f₀ p₀ net₀ place₀ net′ (k + 1) free q (place + n)
     unfolding rowsOf onRow
-    going-next ns free q {net′} {place′} h e n m two =
+    going-next ns free q {net′} {n} h e stored m two =
         let c : count - k ≡ suc (count - (k + 1)) = omega arith in
         let l : line + k + 1 ≡ line + (k + 1) = omega arith in
         let d : rowsOf at (count - k) k (line + k) f p ≡ behind ns (rowsOf at (count - (k + 1)) (k + 1) (line + (k + 1)) free q) = rw (c, rowsOf, e, l) in
         record {
           within = omega arith;
-          same = ap length n ∙ length-sets net place ns ∙ g .same;
+          same = ap length stored ∙ length-sets net place ns ∙ g .same;
           bound = omega (arith, g .bound);
-          rest = λ after r t. g .rest after r (rw d (took-behind (rowsOf at (count - (k + 1)) (k + 1) (line + (k + 1)) free q) ns net after place r (rw (n, m) at t)));
+          rest = λ after r t. g .rest after r (rw d (took-behind (rowsOf at (count - (k + 1)) (k + 1) (line + (k + 1)) free q) ns net after place r (rw (stored, m) at t)));
         }
 
     pub going-fault : (e : Fault) {n : ℕ} → k < count → at k f p ≡ fault e → n ≡ line + k → Took (rowsOf at count 0 line f₀ p₀) net₀ net place₀ (Failed e n)

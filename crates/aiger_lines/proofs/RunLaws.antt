@@ -1,13 +1,18 @@
--- Lines one after the other are read just where each is. Assumes nothing.
+-- Lines one after the other are read just where each is, and then the end of the text. Assumes nothing.
 use mathlib.Core.Path.{_≡_, refl, sym, ap, _∙_}
+use mathlib.Core.Bool.{Bool, true, false, cond}
 use mathlib.Core.List.{List, [], _∷_, _++_, append-assoc, append-nil}
 use Prim.Native.Nat.{ℕ, zero, suc, _+_, _<_}
 use native.Mathlib.Nat.{add-zero}
 use native.Mathlib.Omega.{arith}
+use borrow.Author.Tests.{eqb-true, eq-eqb, ne-eqb}
+use lib.Dec.{eqb}
+use lib.ListN.{length}
 use Rattle.text.specs.Writer.{joined}
 use Rattle.aiger_lines.specs.declared.Fault.{Fault}
+use Rattle.aiger_lines.specs.declared.Fault.the-variants.{WrongShape}
 use Rattle.aiger_lines.specs.Lines.{Row, row, fault}
-use Rattle.aiger_lines.specs.Blocks.{Rows, rows, failed, behind, andThen, onRow, rowsOf}
+use Rattle.aiger_lines.specs.Blocks.{Rows, rows, failed, behind, andThen, onRow, rowsOf, endOf}
 use Rattle.aiger_lines.specs.Heads.{Heading, heading, misheaded, onHead}
 
 pub failed-rows : {e : Fault} {line : ℕ} {ns : List ℕ} {f q : ℕ} → failed e line ≡ rows ns f q → ⊥
@@ -141,3 +146,27 @@ module _ (at : ℕ → ℕ → ℕ → Row) where
     where
       next : (j : ℕ) → j < k → at (from + 1 + j) (F (suc j)) (P (suc j)) ≡ row (N (suc j)) (F (suc (suc j))) (P (suc (suc j)))
       next j i = let n : from + 1 + j ≡ from + suc j = omega arith in rw n (h (suc j) (omega arith))
+
+-- ---- the end of the text
+
+cond-end : (s : List ℕ) (line f p : ℕ) (t : Bool) → eqb p (length s) ≡ t → (ks : List ℕ) (g q : ℕ) → cond t (rows [] f p) (failed WrongShape line) ≡ rows ks g q → (p ≡ length s) × (ks ≡ [])
+cond-end s line f p true e ks g q h = (eqb-true p (length s) e, cc)
+cond-end s line f p false e ks g q h = absurd (failed-rows h)
+
+pub end-rows : (s : List ℕ) (line f p : ℕ) (ks : List ℕ) (g q : ℕ) → endOf s line f p ≡ rows ks g q → (p ≡ length s) × (ks ≡ [])
+unfolding endOf
+end-rows s line f p ks g q h = cond-end s line f p (eqb p (length s)) refl ks g q h
+
+-- lines to the end of the text, or with something behind them, or with a fault
+module _ (s : List ℕ) (x : Rows) (line : ℕ) where
+  pub to-end : (ns : List ℕ) (f q : ℕ) → x ≡ rows ns f q → q ≡ length s → andThen x (λ g r. endOf s line g r) ≡ rows ns f q
+  unfolding andThen behind endOf
+  to-end ns f q e h = rw (e, eq-eqb q (length s) h, append-nil ns)
+
+  pub past-end : (ns : List ℕ) (f q : ℕ) → x ≡ rows ns f q → (q ≡ length s → ⊥) → andThen x (λ g r. endOf s line g r) ≡ failed WrongShape line
+  unfolding andThen behind endOf
+  past-end ns f q e h = rw (e, ne-eqb q (length s) h)
+
+  pub no-end : (e : Fault) (k : ℕ) → x ≡ failed e k → andThen x (λ g r. endOf s line g r) ≡ failed e k
+  unfolding andThen
+  no-end e k h = rw h

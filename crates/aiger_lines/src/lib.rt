@@ -16,6 +16,7 @@ pub use lines::header_at;
 pub use lines::latch_says;
 pub use lines::output_line;
 pub use stores::store;
+pub use stores::store_given;
 pub use stores::store_head;
 pub use stores::store_pair;
 

@@ -1,17 +1,14 @@
 -- The lines after the header are read just where each kind of line is, in order. Assumes nothing.
-use mathlib.Core.Path.{_≡_, refl, ap, _∙_}
-use mathlib.Core.Bool.{Bool, true, false, cond}
+use mathlib.Core.Path.{_≡_, ap, _∙_}
+use mathlib.Core.Bool.{true, false}
 use mathlib.Core.List.{List, [], _++_, append-nil}
 use Prim.Native.Nat.{ℕ, _+_}
-use borrow.Author.Tests.{eqb-true, eq-eqb, ne-eqb}
-use lib.Dec.{eqb}
 use lib.ListN.{length}
 use Rattle.netlist.specs.Literals.{literalOf}
 use Rattle.aiger_lines.specs.declared.Fault.{Fault}
-use Rattle.aiger_lines.specs.declared.Fault.the-variants.{WrongShape}
 use Rattle.aiger_lines.specs.Lines.{Row}
 use Rattle.aiger_lines.specs.Blocks.{Rows, rows, failed, behind, andThen, rowsOf, endOf}
-use Rattle.aiger_lines.proofs.RunLaws.{Run, run-of, then-rows, failed-rows}
+use Rattle.aiger_lines.proofs.RunLaws.{Run, run-of, then-rows, end-rows}
 use Rattle.aiger_lines.proofs.NetLaws.{outputRows}
 use Rattle.aiger_read.specs.Lines.{inputAt, latchAt, gateAt}
 use Rattle.aiger_read.specs.Files.{bodyOf}
@@ -45,14 +42,6 @@ pub record Body (s : List ℕ) (m i l o a p : ℕ) (ns : List ℕ) : Type 0 wher
   pub gates : Run (gateRows s i l) a 0 f3 p3 n4 f4 p4
   pub end : p4 ≡ length s
   pub numbers : ns ≡ n1 ++ (n2 ++ (n3 ++ n4))
-
-cond-end : (s : List ℕ) (line f p : ℕ) (t : Bool) → eqb p (length s) ≡ t → (ks : List ℕ) (g q : ℕ) → cond t (rows [] f p) (failed WrongShape line) ≡ rows ks g q → (p ≡ length s) × (ks ≡ [])
-cond-end s line f p true e ks g q h = (eqb-true p (length s) e, cc)
-cond-end s line f p false e ks g q h = absurd (failed-rows h)
-
-end-rows : (s : List ℕ) (line f p : ℕ) (ks : List ℕ) (g q : ℕ) → endOf s line f p ≡ rows ks g q → (p ≡ length s) × (ks ≡ [])
-unfolding endOf
-end-rows s line f p ks g q h = cond-end s line f p (eqb p (length s)) refl ks g q h
 
 pub body-read : (s : List ℕ) (m i l o a p : ℕ) (ns : List ℕ) (f q : ℕ) → bodyOf s m i l o a p ≡ rows ns f q → Body s m i l o a p ns
 unfolding bodyOf
@@ -111,17 +100,3 @@ pub body-fault : (s : List ℕ) (m i l o a : ℕ) (n1 n2 : List ℕ) (p0 f1 q1 f
     → bodyOf s m i l o a p0 ≡ failed e line
 unfolding bodyOf andThen behind
 body-fault s m i l o a n1 n2 p0 f1 q1 f2 q2 e line e1 e2 e3 = rw (e1, e2, e3)
-
--- lines to the end of the text, or with something behind them, or with a fault
-module _ (s : List ℕ) (x : Rows) (line : ℕ) where
-  pub to-end : (ns : List ℕ) (f q : ℕ) → x ≡ rows ns f q → q ≡ length s → andThen x (λ g r. endOf s line g r) ≡ rows ns f q
-  unfolding andThen behind endOf
-  to-end ns f q e h = rw (e, eq-eqb q (length s) h, append-nil ns)
-
-  pub past-end : (ns : List ℕ) (f q : ℕ) → x ≡ rows ns f q → (q ≡ length s → ⊥) → andThen x (λ g r. endOf s line g r) ≡ failed WrongShape line
-  unfolding andThen behind endOf
-  past-end ns f q e h = rw (e, ne-eqb q (length s) h)
-
-  pub no-end : (e : Fault) (k : ℕ) → x ≡ failed e k → andThen x (λ g r. endOf s line g r) ≡ failed e k
-  unfolding andThen
-  no-end e k h = rw h

@@ -21,12 +21,13 @@ use Rattle.aiger_lines.specs.Heads.{onHead}
 use Rattle.aiger_lines.proofs.PlaceLaws.{At, at-split, at-whole}
 use Rattle.aiger_lines.proofs.FieldLaws.{Small}
 use Rattle.aiger_lines.proofs.HeadLaws.{head-fault}
+use Rattle.aiger_lines.proofs.RunLaws.{to-end, past-end, no-end}
 use Rattle.aiger_lines.proofs.LayoutLaws.{pairAt, oneAt, made}
 use Rattle.aiger_lines.proofs.NetLaws.{joined-none, complete-run, faulty-run, outputRows, own-small, within, reset-small, net-head, net-latch, outputs-run, outputs-fault}
 use Rattle.aiger_read.specs.Files.{bodyOf, fileRead}
 use Rattle.aiger_read.specs.Claims.{IsFile, fileTo, lineOfOutput, lineOfGate}
 use Rattle.aiger_read.proofs.TextLaws.{input-complete, latch-complete, gate-complete}
-use Rattle.aiger_read.proofs.BodyLaws.{inputRows, latchRows, gateRows, gatesToEnd, body-made, to-end, past-end, no-end, body-fault}
+use Rattle.aiger_read.proofs.BodyLaws.{inputRows, latchRows, gateRows, gatesToEnd, body-made, body-fault}
 
 -- a header out of limits that stands there
 pub header-fault : (s : List ℕ) (m i l o a q : ℕ) → At s 0 (headerRow m i l o a) q → Small (m ∷ i ∷ l ∷ o ∷ a ∷ []) → headerOk m i l o a ≡ false → fileRead s ≡ failed OutOfLimits 1

@@ -1,6 +1,5 @@
 -- The laws that belong to no one function.
 pub mod RowLaws
-pub mod StoreLaws
 pub mod PassLaws
 pub mod ReadLaws
 pub mod TextLaws

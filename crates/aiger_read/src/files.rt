@@ -8,41 +8,18 @@ use aiger_lines::Fault;
 use aiger_lines::Head;
 use aiger_lines::HeadRead;
 use aiger_lines::LineRead;
-use aiger_lines::Literals;
 use aiger_lines::Passed;
 use aiger_lines::header_at;
-use aiger_lines::store;
+use aiger_lines::store_given;
 use aiger_lines::store_head;
-use aiger_lines::store_pair;
 use netlist::Variable;
-ghost use mathlib.Core.Path.{_≡_};
 ghost use Prim.Native.Nat.{_+_, _*_, _≤_};
-ghost use lib.ListN.{length};
-ghost use lib.Seq.{sets};
-ghost use Rattle.aiger_lines.specs.Private.Steps.{numbersIn, Took, Within, Counted};
+ghost use Rattle.aiger_lines.specs.Private.Steps.{Took, Within, Counted};
 ghost use Rattle.aiger_read.specs.Files.{fileRead};
 ghost use Rattle.aiger_read.specs.Private.Steps.{firstOf, blockOf, inputsOf, latchesOf, outputsOf, gatesOf};
 
 // How many numbers the header gives.
 const HEADER: usize = 5;
-
-// The literals of a line; the place after them.
-fn store_given(net: &mut [u16], at: usize, given: Literals) -> usize
-    requires { ⌜ at ≤ 200000 ⌝ }
-    ensures { λ r. ⌜ (now (net .exit) ≡ sets (now (net .entry)) at (numbersIn given)) × (r ≡ at + length (numbersIn given)) × (r ≤ at + 2) ⌝ }
-{
-    match given {
-        Literals::None => at,
-        Literals::One(lit) => {
-            store(net, at, lit.0);
-            at + 1
-        }
-        Literals::Two(first, second) => {
-            store_pair(net, at, first.0, second.0);
-            at + 2
-        }
-    }
-}
 
 // The lines of a block, whose literals are stored from `from.place` on.
 fn block_at(s: &[u8], net: &mut [u16], block: Block, from: Cursor) -> Passed
@@ -59,7 +36,8 @@ fn block_at(s: &[u8], net: &mut [u16], block: Block, from: Cursor) -> Passed
         match line_of(s, kind, k, free, at) {
             LineRead::Good(given) => {
                 let literals = given.literals;
-                place = store_given(net, place, literals);
+                let stored = store_given(net, place, literals);
+                place = place + stored;
                 free = given.free;
                 at = given.next;
             }

@@ -1,8 +1,8 @@
 // What an example gives, appended to a buffer.
 use aiger::Written;
-use aiger_read::ReadOutcome;
 use builder::Built;
 use calls::Tally;
+use packed_read::ReadOutcome;
 use simulator::Ran;
 use simulator::RunOutcome;
 use text::Refusal;
@@ -132,7 +132,7 @@ fn put_netlist(out: &mut [u8], net: &[u16], text: &[u8], other: &[u8], trace: &[
 // Appends what reading a file answers, and what its netlist does.
 fn put_file(out: &mut [u8], text: &[u8], other: &[u8], trace: &[u8]) -> usize {
     let mut net = [0u16; NUMBERS];
-    let outcome = aiger_read::read(text, &mut net);
+    let outcome = aiger_file::read(text, &mut net);
     match outcome {
         ReadOutcome::Numbers(_) => put_netlist(out, &net, text, other, trace),
         ReadOutcome::Refused(cause) => put_refusal(out, 0, cause.refusal()),

@@ -3,4 +3,5 @@ mod NumberLaws
 mod RateLaws
 mod SessionLaws
 mod PageLaws
+mod FileLaws
 mod CallLaws

@@ -14,10 +14,10 @@ use Rattle.builder.specs.Build as build
 use Rattle.aiger.specs.declared.Cause as aiger
 use Rattle.aiger.specs.declared.Cause.the-variants as written
 use Rattle.aiger.specs.Write as write
-use Rattle.aiger_read.specs.declared.Cause as aigerRead
-use Rattle.aiger_read.specs.declared.Cause.the-variants as taken
 use Rattle.aiger_lines.specs.declared.Fault.the-variants as faulty
-use Rattle.aiger_read.specs.Read as read
+use Rattle.packed_read.specs.declared.Cause as aigerRead
+use Rattle.packed_read.specs.declared.Cause.the-variants as taken
+use Rattle.packed_read.specs.Read as read
 use Rattle.calls.specs.declared.refusal.Cause as simulator
 use Rattle.calls.specs.declared.refusal.Cause.the-variants as ran
 use Rattle.calls.specs.Refusals as runs
@@ -68,6 +68,8 @@ reads taken.TextTooLong = omega arith
 reads taken.ShortBuffer = omega arith
 reads (taken.FaultyLine faulty.WrongShape line) = omega arith
 reads (taken.FaultyLine faulty.OutOfLimits line) = omega arith
+reads (taken.FaultyRun faulty.WrongShape) = omega arith
+reads (taken.FaultyRun faulty.OutOfLimits) = omega arith
 
 starts : (cause : simulator.Cause) → 1 ≤ runs.refusalOf cause .number
 unfolding runs.refusalOf

@@ -9,12 +9,13 @@ use Rattle.builder.specs.declared.Built.{Built}
 use Rattle.builder.specs.declared.Built.the-variants as built
 use Rattle.aiger.specs.Write as write
 use Rattle.aiger.specs.Write.{WriteEnd, writeOf}
+use Rattle.packed.specs.Format.{packedOf}
 use Rattle.aiger.specs.declared.Written.{Written}
 use Rattle.aiger.specs.declared.Written.the-variants as written
-use Rattle.aiger_read.specs.Read as read
-use Rattle.aiger_read.specs.Read.{ReadEnd, readOf}
-use Rattle.aiger_read.specs.declared.ReadOutcome.{ReadOutcome}
-use Rattle.aiger_read.specs.declared.ReadOutcome.the-variants as outcome
+use Rattle.packed_read.specs.Read as read
+use Rattle.packed_read.specs.declared.ReadOutcome.{ReadOutcome}
+use Rattle.packed_read.specs.declared.ReadOutcome.the-variants as outcome
+use Rattle.aiger_file.specs.Read.{readOf}
 use Rattle.ludopoplar.specs.Codes.{acceptedCode, codeOf}
 
 -- the return code, the lent numbers or bytes, and the result
@@ -46,10 +47,17 @@ unfoldable pub writeAs : Written → List ℕ → ℕ → Filled
 writeAs (written.Bytes n) text before = filled acceptedCode text n
 writeAs (written.Refused cause) text before = filled (codeOf (write.refusalOf cause)) text before
 
-unfoldable pub writeCall : List ℕ → List ℕ → ℕ → Filled
-writeCall net text before = let e = writeOf net text in writeAs (e .answer) (e .text) before
+unfoldable pub writeWith : WriteEnd → ℕ → Filled
+writeWith e before = writeAs (e .answer) (e .text) before
 
--- ---- read: the result is the number of numbers
+-- the name of document 01, and that of document 02, No. 1, for the packed form
+unfoldable pub writeCall : List ℕ → List ℕ → ℕ → Filled
+writeCall net text before = writeWith (writeOf net text) before
+
+unfoldable pub writePackedCall : List ℕ → List ℕ → ℕ → Filled
+writePackedCall net bytes before = writeWith (write.writeAs (packedOf net) net bytes) before
+
+-- ---- read, of a file in either form: the result is the number of numbers
 unfoldable pub readAs : ReadOutcome → List ℕ → ℕ → Filled
 readAs (outcome.Numbers n) net before = filled acceptedCode net n
 readAs (outcome.Refused cause) net before = filled (codeOf (read.refusalOf cause)) net before

@@ -9,8 +9,8 @@ use Rattle.builder.specs.declared.Cause as builder
 use Rattle.builder.specs.Build as build
 use Rattle.aiger.specs.declared.Cause as aiger
 use Rattle.aiger.specs.Write as write
-use Rattle.aiger_read.specs.declared.Cause as aigerRead
-use Rattle.aiger_read.specs.Read as read
+use Rattle.packed_read.specs.declared.Cause as aigerRead
+use Rattle.packed_read.specs.Read as read
 use Rattle.calls.specs.declared.refusal.Cause as simulator
 use Rattle.calls.specs.Refusals as runs
 use Rattle.rate.specs.declared.Cause as rate

@@ -6,5 +6,6 @@ pub mod CheckedRuns
 pub mod Rates
 pub mod Sessions
 pub mod Pages
+pub mod FileClaims
 pub mod CallClaims
 pub mod Claims

@@ -1,5 +1,5 @@
-// The C interface: build, write, read, start, step, run, per million, broken check, broken line and session page as a
-// static library has them; and, in the module checked, build with the second output, start, step and run with the
+// The C interface: build, write, write packed, read, start, step, run, per million, broken check, broken line and session
+// page as a static library has them; and, in the module checked, build with the second output, start, step and run with the
 // tally's third number. Each function calls the one that it is named after and puts what that answers where C looks
 // for it. It returns 0 where the call is accepted, else number × 2^32 + line; results go through pointers, which a
 // refusal leaves as they were. Computes nothing itself. Exports that code, results, tally and buffers are those that
@@ -8,16 +8,17 @@
 // `checks` of `ludo_broken_check` and `first` of `ludo_broken_line`; of a session page what stands in its columns and
 // that it tells graph name and verdict bytes, the clauses `lays` and `tells` of `ludo_session_page`; of a build what
 // it answers and, where that is 0, that its numbers do what demand 3 asks, the clauses `answers` and `demand` of
-// `ludo_build` and `ludo_build_checked`; of start, step and run what an accepted call leaves and what a refused one
+// `ludo_build` and `ludo_build_checked`; of write and read what they return and leave, by the files of both forms, the
+// clauses `writes` of `ludo_write` and `ludo_write_packed` and `reads` of `ludo_read`; of start, step and run what an accepted call leaves and what a refused one
 // does, the clauses `starts` of `ludo_start` and `ludo_start_checked`, `steps` of `ludo_step` and `ludo_step_checked`,
 // `runs` of `ludo_run` and `ludo_run_checked`. `include/ludopoplar.h` declares these functions to C.
 mod checked;
 
 use aiger::Written;
-use aiger_read::ReadOutcome;
 use builder::Built;
 use calls::Tally;
 use first_broken::Checked;
+use packed_read::ReadOutcome;
 use rate::Rated;
 use session_page::Laid;
 use simulator::RunOutcome;
@@ -27,8 +28,11 @@ use simulator::Verdict;
 use text::Refusal;
 ghost use mathlib.Core.Path.{_≡_};
 ghost use mathlib.Core.Bool.{false};
+ghost use Rattle.aiger.specs.Format.{fileOf};
+ghost use Rattle.packed.specs.Format.{packedOf};
 ghost use Rattle.ludopoplar.specs.Codes.{codeOf};
-ghost use Rattle.ludopoplar.specs.Circuits.{filled, buildCall, writeCall, readCall};
+ghost use Rattle.ludopoplar.specs.Circuits.{filled, buildCall, writeCall, writePackedCall, readCall};
+ghost use Rattle.ludopoplar.specs.FileClaims.{CallWrites, CallReads};
 ghost use Rattle.ludopoplar.specs.CallClaims.{CallBuilds, CallAnswers, CallStarts, StartByTwo, CallSteps, StepByTwo, CallRuns, RunByTwo};
 ghost use Rattle.ludopoplar.specs.Claims.{Numbered, CallDivides, CallChecks, CallFinds, CallLays, CallTells};
 ghost use Rattle.ludopoplar.specs.Runs.{verdictNumber, startCallEnd, startCall, stepCallEnd, stepCall, runCallEnd, runCall};
@@ -77,10 +81,11 @@ pub extern "C" fn ludo_build(graph: &[u8], net: &mut [u16], gates: &mut u64) -> 
     }
 }
 
-// Writes the AIGER file of a netlist.
+// Writes the AIGER file of a netlist in the text form.
 #[no_mangle]
 pub extern "C" fn ludo_write(net: &[u16], text: &mut [u8], length: &mut u64) -> u64
     ensures { λ r. ⌜ filled r (now (text .exit)) (now (length .exit)) ≡ writeCall (now (net .entry)) (now (text .entry)) (now (length .entry)) ⌝ }
+    ensures writes { λ r. ⌜ CallWrites (fileOf (now (net .entry))) (now (net .entry)) (now (text .entry)) (now (length .entry)) (filled r (now (text .exit)) (now (length .exit))) ⌝ }
 {
     let written = aiger::write(net, text);
     match written {
@@ -92,12 +97,29 @@ pub extern "C" fn ludo_write(net: &[u16], text: &mut [u8], length: &mut u64) -> 
     }
 }
 
-// Reads the netlist of an AIGER file.
+// Writes the AIGER file of a netlist in the packed form.
+#[no_mangle]
+pub extern "C" fn ludo_write_packed(net: &[u16], bytes: &mut [u8], length: &mut u64) -> u64
+    ensures { λ r. ⌜ filled r (now (bytes .exit)) (now (length .exit)) ≡ writePackedCall (now (net .entry)) (now (bytes .entry)) (now (length .entry)) ⌝ }
+    ensures writes { λ r. ⌜ CallWrites (packedOf (now (net .entry))) (now (net .entry)) (now (bytes .entry)) (now (length .entry)) (filled r (now (bytes .exit)) (now (length .exit))) ⌝ }
+{
+    let written = packed::write(net, bytes);
+    match written {
+        Written::Bytes(end) => {
+            *length = end as u64;
+            ACCEPTED
+        }
+        Written::Refused(cause) => code(cause.refusal()),
+    }
+}
+
+// Reads the netlist of an AIGER file in either form.
 #[no_mangle]
 pub extern "C" fn ludo_read(text: &[u8], net: &mut [u16], length: &mut u64) -> u64
     ensures { λ r. ⌜ filled r (now (net .exit)) (now (length .exit)) ≡ readCall (now (text .entry)) (now (net .entry)) (now (length .entry)) ⌝ }
+    ensures reads { λ r. ⌜ CallReads (now (text .entry)) (now (net .entry)) (now (length .entry)) (filled r (now (net .exit)) (now (length .exit))) ⌝ }
 {
-    let outcome = aiger_read::read(text, net);
+    let outcome = aiger_file::read(text, net);
     match outcome {
         ReadOutcome::Numbers(numbers) => {
             *length = numbers as u64;

@@ -10,13 +10,11 @@ use Rattle.netlist.specs.Valid.{isNetlist}
 use Rattle.assertion.specs.Graph.{Bytes, Graph}
 use Rattle.assertion.specs.Paths.{verdicts, countRejected}
 use Rattle.graph.specs.Reading.{graphOf}
-use Rattle.circuit.specs.Numbers.{numbersOf}
 use Rattle.builder.specs.declared.Cause.{Cause}
 use Rattle.builder.specs.declared.Built.{Built}
 use Rattle.builder.specs.declared.Built.the-variants.{Gates, Refused}
 use Rattle.builder.specs.Build.{refusalOf, buildEnd, buildOf}
 use Rattle.builder.specs.Claims.{BuildMeans}
-use Rattle.aiger.specs.Format.{fileOf}
 use Rattle.calls.specs.declared.refusal.Cause.the-variants.{WrongLine}
 use Rattle.calls.specs.declared.tally.Tally.{Tally}
 use Rattle.calls.specs.Refusals as calls
@@ -32,8 +30,9 @@ use Rattle.judge.specs.Judge.{inputsOf, JudgeEnd, judgeEnd, traceJudged, judgeO
 use Rattle.judge.proofs.BuildLaws.{build-answered, build-left}
 use Rattle.judge.proofs.EndLaws.{room-judged, judge-end}
 use Rattle.page_text.specs.Lines.{refusedLine}
-use Rattle.page.specs.Pages.{graphPage, aigerText}
-use Rattle.page.proofs.LengthLaws.{aiger-fits}
+use Rattle.page.specs.Pages.{graphPage}
+use Rattle.page.specs.Private.Files.{fileIn, fileText}
+use Rattle.page.proofs.LengthLaws.{file-fits}
 use Rattle.page.proofs.BuildLaws.{told, page-end, build-refused, made-netlist, made-file}
 
 -- ---- a build into a buffer that has room for every netlist
@@ -46,11 +45,11 @@ module _ (text : Bytes) {room : List ℕ} (means : BuildMeans false text room) {
   pub netlist-text : {made : ℕ} → r ≡ Gates made → isNetlist net ≡ true
   netlist-text {made} h = rw (build-left text room e) at (made-netlist room enough text means made (build-answered text room e h))
 
-  pub file-text : {made : ℕ} → r ≡ Gates made → fileOf net ≡ graphPage (graphOf text) (λ g. fileOf (numbersOf g))
-  file-text {made} h = rw (build-left text room e) at (made-file room enough text means made (build-answered text room e h))
+  pub file-text : (packed : Bool) {made : ℕ} → r ≡ Gates made → fileIn packed net ≡ fileText packed text
+  file-text packed {made} h = rw (build-left text room e) at (made-file room enough text means made (build-answered text room e h) packed)
 
-  pub aiger-within : length (aigerText text) ≤ 65536
-  aiger-within = aiger-fits room enough text means
+  pub file-within : (packed : Bool) → length (fileText packed text) ≤ 65536
+  file-within = file-fits room enough text means
 
 -- ---- a judgement of which `show` prints the tally, the verdict and the bytes of the cycles
 

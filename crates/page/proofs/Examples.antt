@@ -1,7 +1,7 @@
--- The table of document 01's starred examples, and some more: what monitor and graph2aiger print of each, by the
--- definitions. Assumes nothing.
+-- The table of document 01's starred examples, and some more: what monitor, graph2aiger and graph2aig print of each, by
+-- the definitions. Assumes nothing.
 use mathlib.Core.Path.{_≡_, refl}
-use mathlib.Core.List.{List, [], _∷_, map}
+use mathlib.Core.List.{List, [], _∷_, _++_, map}
 use Prim.Native.String.{String}
 use Rattle.assertion.specs.Graph.{Bytes}
 use Rattle.text.specs.Numbers as numbers
@@ -19,6 +19,8 @@ use Rattle.circuit.specs.Numbers as circuit
 use Rattle.builder.specs.Build as build
 use Rattle.aiger.specs.Rows as rows
 use Rattle.aiger.specs.Format as format
+use Rattle.packed.specs.Runs as runs
+use Rattle.packed.specs.Format as packed
 use Rattle.trace.specs.Traces as traces
 use Rattle.calls.specs.Refusals as calls
 use Rattle.simulator.specs.Run as run
@@ -26,7 +28,7 @@ use Rattle.judge.specs.Judge as judge
 use Rattle.page_text.specs.Parts as parts
 use Rattle.page_text.specs.Lines as lines
 use Rattle.page.specs.Pages as pages
-use Rattle.page.specs.Pages.{monitorText, aigerText}
+use Rattle.page.specs.Pages.{monitorText, aigerText, packedText}
 use Rattle.text.specs.Quoted.{bytes}
 
 -- an input and what is printed of it
@@ -82,7 +84,7 @@ monitorRows =
     ∷ row "T\n1\n" "refused\t10\t0\n"
     ∷ []
 
--- ---- the program that prints AIGER
+-- ---- the program that prints AIGER text
 abbrev aigerRows : List Row
 aigerRows =
     -- G's file
@@ -108,7 +110,25 @@ aigerRows =
     "aag 12 3 2 1 7\n2\n4\n6\n8 18\n10 25\n24\n12 8 3\n14 10 3\n16 4 2\n18 16 6\n20 16 7\n22 4 0\n24 23 21\n"
     ∷ []
 
--- both programs print what the table says
-tables-hold : (printed monitorText monitorRows .found ≡ printed monitorText monitorRows .due) × (printed aigerText aigerRows .found ≡ printed aigerText aigerRows .due)
-unfolding numbers.digitsOf numbers.digits numbers.isDigit numbers.leadingDigits numbers.valueFrom classes.classOf classes.strengthOf classes.isLetter classes.isWordClass classes.startOf classes.run classes.nameBytes classes.isName grammar.andThen grammar.isIndex grammar.indexOf grammar.rightOf grammar.nameOf grammar.closed grammar.whole grammar.treeOf grammar.depthOf grammar.operandOf grammar.expressionOf grammar.restOf graph.isTerminal graph.bitsOf graph.signalBits graph.constantBits graph.input graph.isInit graph.bitHolds graph.alikeFrom graph.holds paths.rejectsAlong paths.rejectedUnder paths.isRejected paths.countRejected pieces.onto pieces.split pieces.same pieces.placeOf pieces.lookUp pieces.placed pieces.lookUpName records.moded records.numberTo records.widthOf records.sized records.named records.marked records.edged records.ofFields records.recordOf reading.faultNumber reading.refusalOf reading.known reading.fits reading.joined reading.symbol reading.runOf reading.resolved reading.judgedTree reading.treeExpr reading.lower reading.modeLines reading.addMode reading.addSignal reading.addConstant reading.addVertex reading.edgeOf reading.unlessFaulty reading.judgeEdge reading.addEdge reading.add reading.finished reading.readLines reading.graphOf literals.literalOf literals.variableOf literals.isInverted gates.inv gates.gate monitor.firstEdgeLatch monitor.firstGate monitor.bitLiteral monitor.alikeOf monitor.formula monitor.happyOr monitor.condemnedOr monitor.edgePiece monitor.masked monitor.gathered monitor.judged monitor.accepted monitor.gatesOf circuit.numbersWith build.refusalOf build.variablesOf rows.line rows.headerRow rows.literalRow rows.latchRow rows.gateRow format.inputLine format.latchLine format.outputLine format.gateLine format.fileWith format.fileOf traces.isBit traces.fitsLine traces.faultFrom traces.faultOf traces.lineCount traces.cyclesFrom traces.cyclesOf calls.refusalOf run.verdictOf parts.bytesBefore parts.graphPart parts.tracePart lines.field lines.refusedLine lines.rejectedLine lines.verdictField lines.sumLine lines.cycleLine lines.report pages.graphPage judge.inputsOf pages.judgement pages.tracePage pages.monitorText pages.aigerText
-tables-hold = (refl, refl)
+-- ---- the program that prints the binary format: lines, and the runs of the gates
+abbrev packedRow : String → String → Bytes → Row
+packedRow i l gates = record { input = bytes i; page = bytes l ++ gates }
+
+abbrev packedRows : List Row
+packedRows =
+    -- G's file
+    packedRow "S\tp\nS\tq\nV\ta\nV\tb\nE\ta\tb\tt\tp\tq\n" "aig 12 3 2 1 7\n18\n25\n24\n"
+    (4 ∷ 5 ∷ 4 ∷ 7 ∷ 12 ∷ 2 ∷ 2 ∷ 10 ∷ 4 ∷ 9 ∷ 18 ∷ 4 ∷ 1 ∷ 2 ∷ [])
+    -- the bits of a constant, with their resets
+    ∷ packedRow "K\tk\t2\nV\tv\nE\tv\tv\tt\tk[1]\tk[0]\n" "aig 13 1 4 1 8\n4 4\n6 6\n20\n27\n26\n"
+    (4 ∷ 5 ∷ 4 ∷ 7 ∷ 3 ∷ 10 ∷ 1 ∷ 11 ∷ 2 ∷ 14 ∷ 4 ∷ 13 ∷ 10 ∷ 8 ∷ 1 ∷ 2 ∷ [])
+    -- a refusal is text
+    ∷ row "V\ta\nE\ta\ta\tt\t10\t1\n" "refused\t7\t2\n"
+    ∷ []
+
+-- the programs print what the table says
+tables-hold : (printed monitorText monitorRows .found ≡ printed monitorText monitorRows .due)
+    × (printed aigerText aigerRows .found ≡ printed aigerText aigerRows .due)
+    × (printed packedText packedRows .found ≡ printed packedText packedRows .due)
+unfolding numbers.digitsOf numbers.digits numbers.isDigit numbers.leadingDigits numbers.valueFrom classes.classOf classes.strengthOf classes.isLetter classes.isWordClass classes.startOf classes.run classes.nameBytes classes.isName grammar.andThen grammar.isIndex grammar.indexOf grammar.rightOf grammar.nameOf grammar.closed grammar.whole grammar.treeOf grammar.depthOf grammar.operandOf grammar.expressionOf grammar.restOf graph.isTerminal graph.bitsOf graph.signalBits graph.constantBits graph.input graph.isInit graph.bitHolds graph.alikeFrom graph.holds paths.rejectsAlong paths.rejectedUnder paths.isRejected paths.countRejected pieces.onto pieces.split pieces.same pieces.placeOf pieces.lookUp pieces.placed pieces.lookUpName records.moded records.numberTo records.widthOf records.sized records.named records.marked records.edged records.ofFields records.recordOf reading.faultNumber reading.refusalOf reading.known reading.fits reading.joined reading.symbol reading.runOf reading.resolved reading.judgedTree reading.treeExpr reading.lower reading.modeLines reading.addMode reading.addSignal reading.addConstant reading.addVertex reading.edgeOf reading.unlessFaulty reading.judgeEdge reading.addEdge reading.add reading.finished reading.readLines reading.graphOf literals.literalOf literals.variableOf literals.isInverted gates.inv gates.gate monitor.firstEdgeLatch monitor.firstGate monitor.bitLiteral monitor.alikeOf monitor.formula monitor.happyOr monitor.condemnedOr monitor.edgePiece monitor.masked monitor.gathered monitor.judged monitor.accepted monitor.gatesOf circuit.numbersWith build.refusalOf build.variablesOf rows.line rows.headerRow rows.literalRow rows.latchRow rows.gateRow format.inputLine format.latchLine format.outputLine format.gateLine format.fileWith format.fileOf runs.runOf runs.run packed.packedHeader packed.packedLatchRow packed.gateRuns packed.packedLatch packed.packedGate packed.packedWith packed.packedOf traces.isBit traces.fitsLine traces.faultFrom traces.faultOf traces.lineCount traces.cyclesFrom traces.cyclesOf calls.refusalOf run.verdictOf parts.bytesBefore parts.graphPart parts.tracePart lines.field lines.refusedLine lines.rejectedLine lines.verdictField lines.sumLine lines.cycleLine lines.report pages.graphPage judge.inputsOf pages.judgement pages.tracePage pages.monitorText pages.aigerText pages.packedText
+tables-hold = (refl, refl, refl)

@@ -1,4 +1,4 @@
--- How long a page is at most: 250,991 bytes for the monitor's, 65,536 for that of AIGER text. Assumes nothing.
+-- How long a page is at most: 250,991 bytes for the monitor's, 65,536 for those of AIGER files. Assumes nothing.
 use mathlib.Core.Path.{_≡_, refl, ap, _∙_}
 use mathlib.Core.Bool.{Bool, true, false, cond}
 use mathlib.Core.List.{List, [], _∷_, _++_}
@@ -37,13 +37,13 @@ use Rattle.demand.proofs.Held.{verdicts-length}
 use Rattle.judge.specs.Judge.{inputsOf}
 use Rattle.judge.proofs.BuildLaws.{numbers-most}
 use Rattle.judge.proofs.EndLaws.{cycles-most}
-use Rattle.aiger.specs.Format.{fileOf}
-use Rattle.aiger.proofs.LengthLaws.{joined-length, file-length}
+use Rattle.aiger.proofs.LengthLaws.{joined-length}
 use Rattle.page_text.specs.Parts.{graphLength, graphPart, tracePart}
 use Rattle.page_text.specs.Lines.{field, refusedLine, rejectedLine, verdictField, sumLine, cycleLine, report}
-use Rattle.page.specs.Pages.{inputRefusal, graphPage, judgement, tracePage, monitorText, aigerText}
+use Rattle.page.specs.Pages.{inputRefusal, graphPage, judgement, tracePage, monitorText}
+use Rattle.page.specs.Private.Files.{fileIn, fileText}
 use Rattle.page.specs.declared.InputFault.the-variants.{TooLong}
-use Rattle.page.proofs.BuildLaws.{made-netlist, made-file}
+use Rattle.page.proofs.BuildLaws.{file-short, made-netlist, made-file}
 use Rattle.page.proofs.SizeLaws.{graph-size, graph-line, graph-number}
 
 -- ---- lines, by the digits of their numbers
@@ -234,20 +234,22 @@ module _ (input : Bytes) where
           (λ g e v. trace-most g (tracePart input) (trace-any short) (λ some. omega (arith, short, trace-short g e some)))
       go false l = omega (arith, refused-length (inputRefusal TooLong) (omega arith) (omega arith))
 
--- ---- the page of AIGER text
+-- ---- the page of an AIGER file
 module _ (buffer : List ℕ) (enough : 8194 ≤ length buffer) (text : Bytes) (means : BuildMeans false text buffer) where
   builds : (g : Graph) → graphOf text ≡ accepted g → variablesOf false g ≤ 4095 → buildOf false text buffer .answer ≡ Gates (length (gatesOf g))
   unfolding buildOf buildAs
   builds g e l = rw (e, le-leb (variablesOf false g) 4095 l, le-leb (length (numbersOf g)) (length buffer) (omega (arith, numbers-most g l)))
 
-  file-most : (g : Graph) → graphOf text ≡ accepted g → variablesOf false g ≤ 4095 → length (fileOf (numbersOf g)) ≤ 65536
-  unfolding graphPage fileOf
-  file-most g e l =
-      let h = builds g e l in
-      let net = buildOf false text buffer .net in
-      let same : fileOf net ≡ fileOf (numbersOf g) = made-file buffer enough text means (length (gatesOf g)) h ∙ rw (e, le-leb (variablesOf false g) 4095 l) in
-      omega (arith, ap length same, file-length net (made-netlist buffer enough text means (length (gatesOf g)) h) (λ k. false))
+  module _ (packed : Bool) where
+    file-most : (g : Graph) → graphOf text ≡ accepted g → variablesOf false g ≤ 4095 → length (fileIn packed (numbersOf g)) ≤ 65536
+    unfolding graphPage fileText
+    file-most g e l =
+        let h = builds g e l in
+        let net = buildOf false text buffer .net in
+        let made = length (gatesOf g) in
+        let same : fileIn packed net ≡ fileIn packed (numbersOf g) = made-file buffer enough text means made h packed ∙ rw (e, le-leb (variablesOf false g) 4095 l) in
+        omega (arith, ap length same, file-short packed net (made-netlist buffer enough text means made h))
 
-  pub aiger-fits : length (aigerText text) ≤ 65536
-  unfolding aigerText
-  aiger-fits = page-most text (λ g. fileOf (numbersOf g)) 65536 (omega arith) file-most
+    pub file-fits : length (fileText packed text) ≤ 65536
+    unfolding fileText
+    file-fits = page-most text (λ g. fileIn packed (numbersOf g)) 65536 (omega arith) file-most

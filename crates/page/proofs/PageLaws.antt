@@ -12,8 +12,7 @@ use Rattle.text.specs.Writer.{top, Wrote}
 use Rattle.text.proofs.WriterLaws.{measured, too-long}
 use Rattle.netlist.specs.Valid.{isNetlist}
 use Rattle.graph.specs.Reading.{graphOf}
-use Rattle.aiger.specs.Format.{fileOf}
-use Rattle.aiger.specs.Write.{WriteEnd, writeEnd, writeOf}
+use Rattle.aiger.specs.Write.{WriteEnd, writeEnd, writeAs}
 use Rattle.aiger.specs.declared.Written.{Written}
 use Rattle.aiger.specs.declared.Written.the-variants as written
 use Rattle.aiger.specs.declared.Cause.the-variants as aiger
@@ -46,16 +45,16 @@ unfoldable pub asPage : Written → Paged
 asPage (written.Bytes n) = Bytes n
 asPage (written.Refused cause) = Refused ShortBuffer
 
-pub file-page : (net out : List ℕ) {w : Written} {t : List ℕ} → isNetlist net ≡ true → writeEnd w t ≡ writeOf net out
-    → pageEnd (asPage w) t ≡ pageOf (fileOf net) out
-unfolding writeOf pageOf asPage
-file-page net out {w} {t} is e = ap page e ∙ rw is (go (leb (length (fileOf net)) (length out)))
+pub file-page : (file net out : List ℕ) {w : Written} {t : List ℕ} → isNetlist net ≡ true → writeEnd w t ≡ writeAs file net out
+    → pageEnd (asPage w) t ≡ pageOf file out
+unfolding writeAs pageOf asPage
+file-page file net out {w} {t} is e = ap page e ∙ rw is (go (leb (length file) (length out)))
   where
     page : WriteEnd → PageEnd
     page x = pageEnd (asPage (x .answer)) (x .text)
 
-    go : (b : Bool) → page (cond (not b) (writeEnd (written.Refused aiger.ShortBuffer) out) (writeEnd (written.Bytes (length (fileOf net))) (fileOf net ++ drop (length (fileOf net)) out)))
-        ≡ cond b (pageEnd (Bytes (length (fileOf net))) (fileOf net ++ drop (length (fileOf net)) out)) (pageEnd (Refused ShortBuffer) out)
+    go : (b : Bool) → page (cond (not b) (writeEnd (written.Refused aiger.ShortBuffer) out) (writeEnd (written.Bytes (length file)) (file ++ drop (length file) out)))
+        ≡ cond b (pageEnd (Bytes (length file)) (file ++ drop (length file) out)) (pageEnd (Refused ShortBuffer) out)
     go true = refl
     go false = refl
 

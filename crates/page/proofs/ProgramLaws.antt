@@ -9,13 +9,14 @@ use borrow.Author.Tests.{le-leb, lt-ltb}
 use lib.ListN.{length, take, drop, length-take, length-append}
 use lib.Seq.{take-at, take-all}
 use Rattle.assertion.specs.Graph.{Graph}
-use Rattle.graph.specs.Reading.{Outcome, graphOf}
+use Rattle.graph.specs.Reading.{graphOf}
 use Rattle.circuit.specs.Numbers.{numbersOf}
 use Rattle.aiger.specs.Format.{fileOf}
+use Rattle.packed.specs.Format.{packedOf}
 use Rattle.page.specs.declared.Paged.{Paged}
 use Rattle.page.specs.declared.Paged.the-variants.{Bytes, Refused}
 use Rattle.page.specs.declared.Cause.{Cause}
-use Rattle.page.specs.Pages.{graphPage, monitorText, aigerText, PageEnd, pageEnd, pageOf}
+use Rattle.page.specs.Pages.{graphPage, monitorText, aigerText, packedText, PageEnd, pageEnd, pageOf}
 use Rattle.page.proofs.PageLaws.{long-text}
 
 -- a program prints the page `text` of its input, which k bytes settle: n bytes were read into a buffer of k, the page
@@ -58,14 +59,19 @@ monitor-cut s = go (decLe (length s) 65537)
     go (yes h) = ap monitorText (take-all 65537 s h)
     go (no h) = long-text (take 65537 s) (omega (arith, length-take 65537 s)) ∙ sym (long-text s (omega arith))
 
--- the first 32,769 bytes of a graph text give that of its AIGER file
-pub aiger-cut : (s : List ℕ) → aigerText (take 32769 s) ≡ aigerText s
-unfolding aigerText graphOf
-aiger-cut s = go (decLe (length s) 32769)
+-- the first 32,769 bytes of a graph text give its page
+graph-cut : (print : Graph → List ℕ) (s : List ℕ) → graphPage (graphOf (take 32769 s)) print ≡ graphPage (graphOf s) print
+unfolding graphOf
+graph-cut print s = go (decLe (length s) 32769)
   where
-    page : Outcome → List ℕ
-    page o = graphPage o (λ g. fileOf (numbersOf g))
-
-    go : Dec (length s ≤ 32769) → page (graphOf (take 32769 s)) ≡ page (graphOf s)
-    go (yes h) = ap (λ (t : List ℕ). page (graphOf t)) (take-all 32769 s h)
+    go : Dec (length s ≤ 32769) → graphPage (graphOf (take 32769 s)) print ≡ graphPage (graphOf s) print
+    go (yes h) = ap (λ (t : List ℕ). graphPage (graphOf t) print) (take-all 32769 s h)
     go (no h) = rw (lt-ltb 32768 (length (take 32769 s)) (omega (arith, length-take 32769 s)), lt-ltb 32768 (length s) (omega arith))
+
+pub aiger-cut : (s : List ℕ) → aigerText (take 32769 s) ≡ aigerText s
+unfolding aigerText
+aiger-cut = graph-cut (λ g. fileOf (numbersOf g))
+
+pub packed-cut : (s : List ℕ) → packedText (take 32769 s) ≡ packedText s
+unfolding packedText
+packed-cut = graph-cut (λ g. packedOf (numbersOf g))

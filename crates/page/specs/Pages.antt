@@ -1,5 +1,6 @@
--- The pages of the programs monitor and graph2aiger. A refusal of what a page needs is the page's text; a page itself is
--- refused only where it does not fit into the buffer. Which cycles are rejected is said by paths. Assumes nothing.
+-- The pages of the programs monitor, graph2aiger and graph2aig. A refusal of what a page needs is the page's text; a page
+-- itself is refused only where it does not fit into the buffer. Which cycles are rejected is said by paths. Assumes
+-- nothing.
 use mathlib.Core.Path.{_≡_}
 use mathlib.Core.Logic.{_⊎_}
 use mathlib.Core.Bool.{false, cond}
@@ -18,6 +19,7 @@ use Rattle.builder.specs.Build as build
 use Rattle.builder.specs.Build.{variablesOf}
 use Rattle.builder.specs.declared.Cause.the-variants.{GraphText, TooManyVariables}
 use Rattle.aiger.specs.Format.{fileOf}
+use Rattle.packed.specs.Format.{packedOf}
 use Rattle.trace.specs.Traces.{faultOf, cyclesOf}
 use Rattle.simulator.specs.Run.{verdictOf}
 use Rattle.demand.specs.Demand.{SomeRejected}
@@ -78,9 +80,12 @@ JudgementMeans input =
     → faultOf (inputsOf g) (tracePart input) ≡ 0
     → SumMeans g (cyclesOf (inputsOf g) (tracePart input)) (monitorText input)
 
--- ---- the program that prints AIGER: its whole input is a graph text
+-- ---- the programs that print AIGER, as text and in the binary format: their whole input is a graph text
 unfoldable pub aigerText : Bytes → Bytes
 aigerText input = graphPage (graphOf input) (λ g. fileOf (numbersOf g))
+
+unfoldable pub packedText : Bytes → Bytes
+packedText input = graphPage (graphOf input) (λ g. packedOf (numbersOf g))
 
 -- ---- a page in a lent buffer, which keeps its surplus; refused with 12 where it is too short
 pub record PageEnd : Type 0 where

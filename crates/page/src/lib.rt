@@ -1,7 +1,8 @@
-// The pages of monitor and graph2aiger, as functions on slices: the monitor's judgement of a trace, and the AIGER file of
-// a graph. A refusal of what a page needs is the page's text; a page itself is refused only where the buffer is too
-// short for it. Knows nothing of where its bytes come from or go to. Exports that the monitor's page names exactly
-// the cycles that some setting and some rejecting path condemn, and says rejected exactly if there is one.
+// The pages of monitor, graph2aiger and graph2aig, as functions on slices: the monitor's judgement of a trace, and the
+// AIGER file of a graph, as text and in the binary format. A refusal of what a page needs is the page's text; a page
+// itself is refused only where the buffer is too short for it. Knows nothing of where its bytes come from or go to.
+// Exports that the monitor's page names exactly the cycles that some setting and some rejecting path condemn, and says
+// rejected exactly if there is one.
 use aiger::Written;
 use builder::Built;
 use calls::Tally;
@@ -18,9 +19,10 @@ ghost use lib.ListN.{length};
 ghost use Rattle.netlist.specs.Valid.{isNetlist};
 ghost use Rattle.assertion.specs.Paths.{PathsMean};
 ghost use Rattle.graph.specs.Reading.{graphOf};
-ghost use Rattle.aiger.specs.Format.{fileOf};
+ghost use Rattle.aiger.specs.Write.{writeEnd, writeAs};
 ghost use Rattle.page_text.specs.Lines.{refusedLine, report};
-ghost use Rattle.page.specs.Pages.{refusalOf, inputRefusal, JudgementMeans, graphPage, tracePage, pageEnd, pageOf, monitorText, aigerText};
+ghost use Rattle.page.specs.Pages.{refusalOf, inputRefusal, JudgementMeans, graphPage, tracePage, pageEnd, pageOf, monitorText, aigerText, packedText};
+ghost use Rattle.page.specs.Private.Files.{fileIn, fileText};
 
 // The longest input of a program.
 const MAX_INPUT: usize = 65536;
@@ -134,28 +136,55 @@ pub fn monitor_page(input: &[u8], out: &mut [u8]) -> Paged
     judged_page(out, &input[..end], &input[at..])
 }
 
-// The file of a netlist as a page.
-fn file_page(out: &mut [u8], net: &[u16]) -> Paged
-    requires { ⌜ isNetlist (now net) ≡ true ⌝ }
-    ensures { λ r. ⌜ pageEnd r (now (out .exit)) ≡ pageOf (fileOf (now (net .entry))) (now (out .entry)) ⌝ }
+// Writes the file of a netlist, packed or as text.
+fn write_file(net: &[u16], packed: bool, out: &mut [u8]) -> Written
+    ensures { λ r. ⌜ writeEnd r (now (out .exit)) ≡ writeAs (fileIn packed (now (net .entry))) (now (net .entry)) (now (out .entry)) ⌝ }
 {
-    let written = aiger::write(net, out);
+    if packed {
+        packed::write(net, out)
+    } else {
+        aiger::write(net, out)
+    }
+}
+
+// The file of a netlist as a page.
+fn file_page(out: &mut [u8], net: &[u16], packed: bool) -> Paged
+    requires { ⌜ isNetlist (now net) ≡ true ⌝ }
+    ensures { λ r. ⌜ pageEnd r (now (out .exit)) ≡ pageOf (fileIn packed (now (net .entry))) (now (out .entry)) ⌝ }
+{
+    let written = write_file(net, packed, out);
     match written {
         Written::Bytes(end) => Paged::Bytes(end),
         Written::Refused(_) => Paged::Refused(Cause::ShortBuffer),
     }
 }
 
-// The page of the program that prints AIGER: its whole input is a graph text. It prints the file of the monitor's
+// The page of a graph text: the file of its monitor's netlist, or the refusal.
+fn graph_file(input: &[u8], packed: bool, out: &mut [u8]) -> Paged
+    ensures { λ r. ⌜ pageEnd r (now (out .exit)) ≡ pageOf (fileText packed (now (input .entry))) (now (out .entry)) ⌝ }
+    ensures fits { λ _. ⌜ length (fileText packed (now (input .entry))) ≤ 65536 ⌝ }
+{
+    let mut net = [0u16; MAX_NUMBERS];
+    let built = builder::build(input, false, &mut net);
+    match built {
+        Built::Gates(_) => file_page(out, &net, packed),
+        Built::Refused(cause) => refused_page(out, cause.refusal()),
+    }
+}
+
+// The page of the program that prints AIGER text: its whole input is a graph text. It prints the file of the monitor's
 // netlist, or the refusal.
 pub fn aiger_page(input: &[u8], out: &mut [u8]) -> Paged
     ensures { λ r. ⌜ pageEnd r (now (out .exit)) ≡ pageOf (aigerText (now (input .entry))) (now (out .entry)) ⌝ }
     ensures fits { λ _. ⌜ length (aigerText (now (input .entry))) ≤ 65536 ⌝ }
 {
-    let mut net = [0u16; MAX_NUMBERS];
-    let built = builder::build(input, false, &mut net);
-    match built {
-        Built::Gates(_) => file_page(out, &net),
-        Built::Refused(cause) => refused_page(out, cause.refusal()),
-    }
+    graph_file(input, false, out)
+}
+
+// The page of the program that prints AIGER in the binary format. A refusal is text, as in every page.
+pub fn packed_page(input: &[u8], out: &mut [u8]) -> Paged
+    ensures { λ r. ⌜ pageEnd r (now (out .exit)) ≡ pageOf (packedText (now (input .entry))) (now (out .entry)) ⌝ }
+    ensures fits { λ _. ⌜ length (packedText (now (input .entry))) ≤ 65536 ⌝ }
+{
+    graph_file(input, true, out)
 }

@@ -1,10 +1,10 @@
-// Runs both page functions over the cases of standard input and writes, for each, its label and the page as it is.
+// Runs the page functions over the cases of standard input and writes, for each, its label and the page as it is.
 //
-// A case is a line with its length in bytes, a tab, `m` for the monitor's page or `a` for AIGER's, and the rest of its
-// label; then that many bytes of input. cases.py writes the cases and, by hand, the pages that document 01 asks for,
-// with the verdict of document 02. Each page is asked for three times, into a buffer with surplus, one of just its
-// length and one a byte shorter; a line in capitals says where an answer or a buffer is not what it must be. Last come
-// the cases of the largest inputs.
+// A case is a line with its length in bytes, a tab, `m` for the monitor's page, `a` for that of AIGER text or `p` for that
+// of AIGER in the binary format, and the rest of its label; then that many bytes of input. cases.py writes the cases and,
+// by hand, the pages that document 01 asks for, with the verdict of document 02. Each page is asked for three times, into
+// a buffer with surplus, one of just its length and one a byte shorter; a line in capitals says where an answer or a
+// buffer is not what it must be. Last come the cases of the largest inputs.
 use page::Paged;
 use text::Line;
 use text::Number;
@@ -25,6 +25,8 @@ const ROOM: usize = 2048;
 fn page_of(kind: u8, input: &[u8], out: &mut [u8]) -> Paged {
     if kind == b'm' {
         page::monitor_page(input, out)
+    } else if kind == b'p' {
+        page::packed_page(input, out)
     } else {
         page::aiger_page(input, out)
     }

@@ -14,11 +14,12 @@ pub struct Words {
     pub checked: u32,
 }
 
-/// A graph, its netlist, its AIGER text and a trace for it.
+/// A graph, its netlist, its AIGER file in both forms and a trace for it.
 pub struct Bench {
     pub graph: Vec<u8>,
     pub net: Vec<u16>,
     pub text: Vec<u8>,
+    pub packed: Vec<u8>,
     pub trace: Vec<u8>,
 }
 
@@ -39,10 +40,17 @@ impl Bench {
         let numbers = ludopoplar::read(&text, &mut back).expect("a netlist's text");
         net.truncate(numbers);
         assert_eq!(net, back[..numbers], "read gives other numbers");
+        let mut packed = vec![0; 65_536];
+        let length = ludopoplar::write_packed(&net, &mut packed).expect("a netlist");
+        packed.truncate(length);
+        back.fill(0);
+        ludopoplar::read(&packed, &mut back).expect("a netlist's packed file");
+        assert_eq!(net, back[..numbers], "the packed file gives other numbers");
         let bench = Bench {
             graph,
             net,
             text,
+            packed,
             trace,
         };
         bench.check_reference(outputs, gates);
@@ -51,13 +59,18 @@ impl Bench {
 
     fn check_reference(&self, outputs: Outputs, gates: u64) {
         let (mut net, mut text) = (vec![0; self.net.len()], vec![0; self.text.len()]);
+        let mut packed = vec![0; self.packed.len()];
         let made = reference::build(&self.graph, outputs, &mut net).expect("an accepted graph");
         assert_eq!((made as u64, &net), (gates, &self.net), "the builds differ");
         reference::write(&net, &mut text).expect("a netlist");
         assert_eq!(text, self.text, "the texts differ");
-        net.fill(0);
-        reference::read(&text, &mut net).expect("a netlist's text");
-        assert_eq!(net, self.net, "the readers differ");
+        reference::write_packed(&net, &mut packed).expect("a netlist");
+        assert_eq!(packed, self.packed, "the packed files differ");
+        for file in [text, packed] {
+            net.fill(0);
+            reference::read(&file, &mut net).expect("a netlist's file");
+            assert_eq!(net, self.net, "the readers differ");
+        }
     }
 
     pub fn inputs(&self) -> usize {

@@ -1,5 +1,5 @@
-//! Measures the proved library beside the reference and, for `run`, a C loop; and `run`
-//! with two outputs beside `run` with one.
+//! Measures the proved library beside the reference and, for `run`, a C loop; `run` with two
+//! outputs beside `run` with one; and files of the packed form beside those of text.
 //! The results of all of them are compared before anything is timed.
 
 mod bench;
@@ -16,7 +16,7 @@ use std::fmt::Debug;
 use std::hint::black_box;
 
 const RUNS: usize = 7;
-/// Repetitions of `build`, `read`, `write`, and of a row of steps.
+/// Repetitions of `build`, of `read` and the writers, and of a row of steps.
 const SHORT_CALLS: usize = 300;
 /// Cycles in a row of steps.
 const STEPS: usize = 100;
@@ -26,7 +26,8 @@ fn main() {
         "Processor time, best of {RUNS} repetitions for run, of {SHORT_CALLS} for the others."
     );
     println!("A ratio is another implementation's time over the library's: above 1 the");
-    println!("library is faster. That of one output is the library's own time with it.");
+    println!("library is faster. Those of one output and of text are the library's own times");
+    println!("with it.");
     report(
         "stroke buffer of 40 places",
         &graphs::stroke_buffer(40),
@@ -54,6 +55,7 @@ fn report(name: &str, graph: &str, trace: &[u8]) {
     report_build(bench);
     report_read(bench);
     report_write(bench);
+    report_packed(bench);
 }
 
 /// Runs over the longest trace, each going on where the one before ended.
@@ -205,6 +207,48 @@ fn report_write(bench: &Bench) {
         ],
     );
     report_text_call("write", bench.gates(), bench.text.len(), times);
+}
+
+/// The packed file beside the text; the two calls of the library take turns.
+fn report_packed(bench: &Bench) {
+    let (text, packed) = (&bench.text, &bench.packed);
+    println!(
+        "  packed file of {} bytes, text of {}",
+        packed.len(),
+        text.len()
+    );
+    let (mut net, mut same, mut other) = (bench.net.clone(), bench.net.clone(), bench.net.clone());
+    let times = best(
+        SHORT_CALLS,
+        [
+            &mut || accepted(ludopoplar::read(packed, &mut net)),
+            &mut || accepted(ludopoplar::read(text, &mut same)),
+            &mut || accepted(reference::read(packed, &mut other)),
+        ],
+    );
+    report_packed_call("read", bench, times);
+    let net = &bench.net;
+    let (mut bytes, mut same, mut other) = (packed.clone(), text.clone(), packed.clone());
+    let times = best(
+        SHORT_CALLS,
+        [
+            &mut || accepted(ludopoplar::write_packed(net, &mut bytes)),
+            &mut || accepted(ludopoplar::write(net, &mut same)),
+            &mut || accepted(reference::write_packed(net, &mut other)),
+        ],
+    );
+    report_packed_call("write", bench, times);
+}
+
+fn report_packed_call(name: &str, bench: &Bench, [library, text, reference]: [f64; 3]) {
+    println!(
+        "  {name:5}  packed {}, {}, {}; text {}, reference {}",
+        duration(library),
+        rate(bench.gates(), library, "gates"),
+        megabytes(bench.packed.len(), library),
+        ratio(text, library),
+        ratio(reference, library),
+    );
 }
 
 fn report_text_call(name: &str, gates: usize, bytes: usize, [library, reference]: [f64; 2]) {

@@ -1,4 +1,4 @@
-//! AIGER texts: written ones and damaged ones.
+//! AIGER texts: written ones and damaged ones; and what the lines of both forms share.
 
 use crate::damage::{change_fields, damage};
 use crate::netlists;
@@ -6,6 +6,23 @@ use crate::random::Random;
 
 const MAX_AIGER_BYTES: usize = 65_536;
 const MEANINGFUL: &[u8] = b"0123456789 \n\raigc-+\t\0\xff";
+
+/// How a file is written; its header's first word says it.
+#[derive(Clone, Copy, PartialEq, Eq)]
+pub enum Form {
+    Text,
+    Packed,
+}
+
+impl Form {
+    /// The first word, and the blank after it.
+    pub fn tag(self) -> &'static [u8] {
+        match self {
+            Form::Text => b"aag ",
+            Form::Packed => b"aig ",
+        }
+    }
+}
 
 /// An AIGER text of any kind.
 pub fn any(random: &mut Random) -> Vec<u8> {
@@ -18,7 +35,7 @@ pub fn any(random: &mut Random) -> Vec<u8> {
             for _ in 0..random.within(1..=2) {
                 match random.coin() {
                     true => damage(random, &mut text, MEANINGFUL),
-                    false => change_number(random, &mut text),
+                    false => change_number(random, &mut text, Form::Text),
                 }
             }
         }
@@ -78,10 +95,11 @@ fn explicit_resets(random: &mut Random, text: &mut Vec<u8>) {
     }
 }
 
-fn change_number(random: &mut Random, text: &mut Vec<u8>) {
+/// Of lines: a number, a count of the header, or an output.
+pub fn change_number(random: &mut Random, text: &mut Vec<u8>, form: Form) {
     match random.below(12) {
         0 | 1 => return change_header(random, text),
-        2 | 3 => return change_outputs(random, text),
+        2 | 3 => return change_outputs(random, text, form),
         _ => (),
     }
     change_fields(random, text, b' ', |random, fields| {
@@ -98,16 +116,20 @@ fn change_number(random: &mut Random, text: &mut Vec<u8>) {
 
 /// Changes the header's O or the lines of outputs, or both: a line left out, doubled, or past
 /// the limit.
-fn change_outputs(random: &mut Random, text: &mut Vec<u8>) {
+fn change_outputs(random: &mut Random, text: &mut Vec<u8>, form: Form) {
     let mut lines: Vec<Vec<u8>> = text
         .split_inclusive(|byte| *byte == b'\n')
         .map(<[u8]>::to_vec)
         .collect();
-    let Some(mut header) = header_of(text) else {
+    let Some(mut header) = header_of(text, form) else {
         return;
     };
     let [variables, inputs, latches, outputs, _] = header;
-    let place = 1 + inputs + latches + random.below(outputs.max(1));
+    let input_lines = match form {
+        Form::Text => inputs,
+        Form::Packed => 0,
+    };
+    let place = 1 + input_lines + latches + random.below(outputs.max(1));
     if place < lines.len() {
         match random.below(4) {
             0 => drop(lines.remove(place)),
@@ -120,14 +142,14 @@ fn change_outputs(random: &mut Random, text: &mut Vec<u8>) {
         header[3] = random.below(5);
     }
     let header: Vec<String> = header.iter().map(usize::to_string).collect();
-    lines[0] = format!("aag {}\n", header.join(" ")).into_bytes();
+    lines[0] = [form.tag(), header.join(" ").as_bytes(), b"\n"].concat();
     *text = lines.concat();
 }
 
-/// M I L O A; `None` if the first line does not have their form.
-pub fn header_of(text: &[u8]) -> Option<[usize; 5]> {
+/// M I L O A; `None` if the first line is not a header of this form.
+pub fn header_of(text: &[u8], form: Form) -> Option<[usize; 5]> {
     let line = text.split(|byte| *byte == b'\n').next()?;
-    let fields = std::str::from_utf8(line).ok()?.strip_prefix("aag ")?;
+    let fields = std::str::from_utf8(line.strip_prefix(form.tag())?).ok()?;
     let number = |field: &str| field.parse::<u16>().ok().map(usize::from);
     let numbers: Vec<usize> = fields.split(' ').map(number).collect::<Option<_>>()?;
     numbers.try_into().ok()
@@ -164,7 +186,7 @@ fn other_number(random: &mut Random, field: &[u8]) -> Vec<u8> {
 }
 
 /// Fills the text up to the limit, or one byte over it.
-fn near_size_limit(random: &mut Random, text: &mut Vec<u8>) {
+pub fn near_size_limit(random: &mut Random, text: &mut Vec<u8>) {
     let size = random.within(MAX_AIGER_BYTES - 1..=MAX_AIGER_BYTES + 1);
     text.resize(size, b'\n');
 }

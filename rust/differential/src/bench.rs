@@ -19,6 +19,7 @@ impl Bench<'_> {
             self.coverage.record_graph(&call.bytes, outputs, &outcome);
         }
         self.coverage.stakes.record(call, before, &outcome);
+        self.coverage.forms.record(call, &outcome);
         Ok(outcome)
     }
 

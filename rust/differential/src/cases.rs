@@ -1,15 +1,15 @@
-//! The cases: one call, or a list of calls on one netlist; and now and then a session, or a
-//! session page.
+//! The cases: one call, or a list of calls on one netlist; and now and then a session, a session
+//! page, or a packed file.
 
 use crate::bench::Bench;
 use crate::compare::{Call, Lengths, Memory, Mismatch, Name};
 use crate::random::Random;
-use crate::round_trip::write_and_read_back;
-use crate::{aigers, graphs, netlists, pages, rates, sequence, sessions, traces};
+use crate::round_trip::{both_forms, write_and_read_back};
+use crate::{aigers, graphs, netlists, packs, pages, rates, sequence, sessions, traces};
 use reference::{formula_of_gates, Edge, Graph, Netlist, Outputs, Tally};
 
-/// The session and then the page are drawn last, so that the others' draws do not depend on
-/// them.
+/// The session, then the page and then the packed file are drawn last, so that the others'
+/// draws do not depend on them.
 pub fn case(bench: &mut Bench) -> Result<(), Mismatch> {
     calls(bench)?;
     if bench.random.once_in(4) {
@@ -17,6 +17,9 @@ pub fn case(bench: &mut Bench) -> Result<(), Mismatch> {
     }
     if bench.random.once_in(4) {
         page(bench)?;
+    }
+    if bench.random.coin() {
+        packed(bench)?;
     }
     Ok(())
 }
@@ -77,6 +80,10 @@ fn check_gates(text: &[u8], outputs: Outputs, gates: u64) -> Result<(), Mismatch
 
 fn read(bench: &mut Bench) -> Result<(), Mismatch> {
     let text = aigers::any(&mut bench.random);
+    read_file(bench, text)
+}
+
+fn read_file(bench: &mut Bench, text: Vec<u8>) -> Result<(), Mismatch> {
     let mut scratch = vec![0; netlists::MOST_NUMBERS];
     let needed = reference::read(&text, &mut scratch).unwrap_or(bench.random.below(3_000));
     let lengths = Lengths {
@@ -90,7 +97,22 @@ fn read(bench: &mut Bench) -> Result<(), Mismatch> {
 
 fn write(bench: &mut Bench) -> Result<(), Mismatch> {
     let net = netlists::any(&mut bench.random);
-    write_and_read_back(bench, net)
+    write_and_read_back(bench, Name::Write, &net)?;
+    Ok(())
+}
+
+/// A netlist in both forms, or a file that is packed.
+fn packed(bench: &mut Bench) -> Result<(), Mismatch> {
+    match bench.random.below(4) {
+        0 => {
+            let net = netlists::any(&mut bench.random);
+            both_forms(bench, net)
+        }
+        _ => {
+            let file = packs::any(&mut bench.random);
+            read_file(bench, file)
+        }
+    }
 }
 
 /// The lengths that the calls on a netlist need; some small ones if it is none.

@@ -17,7 +17,7 @@ const ONE_OUTPUT: [u16; 6] = [1, 1, 0, 1, 0, 2];
 const TWO_OUTPUTS: [u16; 7] = [1, 1, 0, 2, 0, 2, 2];
 /// Inputs, latches with next and reset, and gates of small netlists; any output is good up to
 /// 2M + 1.
-const BODIES: [(u16, &[u16], &[u16]); 3] = [
+pub const BODIES: [(u16, &[u16], &[u16]); 3] = [
     (1, &[], &[]),
     (2, &[5, 1], &[6, 3]),
     (1, &[4, 4, 9, 0], &[5, 2, 9, 8]),
@@ -62,7 +62,7 @@ fn compare(bench: &mut Bench, call: Call, tally: Tally) -> Result<(), Mismatch> 
             net: MOST_NUMBERS + 2,
             ..Lengths::default()
         },
-        Name::Write => Lengths {
+        Name::Write | Name::WritePacked => Lengths {
             text: 65_536,
             ..Lengths::default()
         },
@@ -164,7 +164,7 @@ fn graphs_at_the_limit() -> Vec<Vec<u8>> {
 
 /// The counts that a netlist's or a file's header says of outputs, and has of them; and these
 /// good, or one of them past the limit.
-fn output_lists(most: u16) -> Vec<(u16, Vec<u16>)> {
+pub fn output_lists(most: u16) -> Vec<(u16, Vec<u16>)> {
     let mut lists = Vec::new();
     for said in 0..=4 {
         for has in 0..=4 {
@@ -180,14 +180,14 @@ fn output_lists(most: u16) -> Vec<(u16, Vec<u16>)> {
 }
 
 /// The numbers of a body with these outputs.
-fn numbers(body: (u16, &[u16], &[u16]), said: u16, outputs: &[u16]) -> Vec<u16> {
+pub fn numbers(body: (u16, &[u16], &[u16]), said: u16, outputs: &[u16]) -> Vec<u16> {
     let (inputs, latches, gates) = body;
     let [l, a] = [latches, gates].map(|numbers| numbers.len() as u16 / 2);
     let header = [inputs + l + a, inputs, l, said, a];
     [&header, latches, outputs, gates].concat()
 }
 
-fn netlists_by_outputs() -> Vec<Vec<u16>> {
+pub fn netlists_by_outputs() -> Vec<Vec<u16>> {
     let mut nets = Vec::new();
     for body in BODIES {
         let most = 2 * numbers(body, 0, &[])[0] + 1;
@@ -227,7 +227,7 @@ fn files_by_outputs() -> Vec<Vec<u8>> {
 }
 
 /// As many numbers as there may be, with either count of outputs: latches alone, gates alone.
-fn longest_netlists() -> Vec<Vec<u16>> {
+pub fn longest_netlists() -> Vec<Vec<u16>> {
     let latches = [8_191, 1].repeat(4_094);
     let gates: Vec<u16> = (2..=4_095u16)
         .flat_map(|own| [2 * own - 1, 2 * own - 2])
@@ -247,6 +247,7 @@ fn calls_on(net: &[u16]) -> Vec<Call> {
     let trace = [&cycle[..], b"\n"].concat().repeat(2);
     [
         (Name::Write, &b""[..]),
+        (Name::WritePacked, b""),
         (Name::Start, b""),
         (Name::StartChecked, b""),
         (Name::Step, &cycle),

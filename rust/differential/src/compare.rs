@@ -12,6 +12,7 @@ pub enum Name {
     Build,
     Read,
     Write,
+    WritePacked,
     Start,
     Step,
     Run,
@@ -52,7 +53,7 @@ impl Name {
     }
 }
 
-/// A call with what it reads: `bytes` is a graph, an AIGER text, a cycle or a trace.
+/// A call with what it reads: `bytes` is a graph, an AIGER file, a cycle or a trace.
 #[derive(Clone, PartialEq)]
 pub struct Call {
     pub name: Name,
@@ -154,7 +155,7 @@ pub struct Lengths {
 #[derive(Clone, PartialEq)]
 pub struct Memory {
     pub net: Lent<u16>,
-    /// An AIGER text or a session page.
+    /// An AIGER file of either form or a session page.
     pub text: Lent<u8>,
     pub latches: Lent<u64>,
     pub values: Lent<u64>,
@@ -249,6 +250,7 @@ fn library(call: &mut Call, memory: &mut Memory) -> u64 {
         Name::Build => raw::build(bytes, memory.net.get_mut(), answer),
         Name::Read => raw::read(bytes, memory.net.get_mut(), answer),
         Name::Write => raw::write(net, memory.text.get_mut(), answer),
+        Name::WritePacked => raw::write_packed(net, memory.text.get_mut(), answer),
         Name::Start => raw::start(net, latches, cycles, rejected),
         Name::Step => raw::step(net, bytes, latches, values, cycles, rejected, answer),
         Name::Run => {
@@ -299,6 +301,7 @@ fn reference_call(call: &Call, memory: &mut Memory) -> Result<(), Refusal> {
         }
         Name::Read => reference::read(bytes, memory.net.get_mut())? as u64,
         Name::Write => reference::write(net, memory.text.get_mut())? as u64,
+        Name::WritePacked => reference::write_packed(net, memory.text.get_mut())? as u64,
         Name::Start => {
             return with_two_numbers(tally, |tally| reference::start(net, latches, tally))
         }

@@ -1,8 +1,9 @@
 //! How often each call was accepted, and refused with each number; of the graphs how often
-//! each rule chose their terminal edges, and what they have of names wider than a bit; and
-//! what the calls have of a second output.
+//! each rule chose their terminal edges, and what they have of names wider than a bit; what
+//! the calls have of a second output; and of packed files what they have and are refused for.
 
 use crate::compare::{Name, Outcome};
+use crate::forms::Forms;
 use crate::kinds::Kinds;
 use crate::stakes::Stakes;
 use reference::{Edge, Graph, Operand, Outputs};
@@ -10,14 +11,15 @@ use std::collections::BTreeMap;
 use std::fmt;
 
 /// Every number each call can be refused with; `BrokenLine` never is.
-const REFUSALS: [(Name, &[u32]); 13] = [
+const REFUSALS: [(Name, &[u32]); 14] = [
     (Name::Build, &[1, 2, 3, 4, 5, 6, 7, 8, 9, 10, 11, 12, 19]),
     (
         Name::BuildChecked,
         &[1, 2, 3, 4, 5, 6, 7, 8, 9, 10, 11, 12, 19],
     ),
-    (Name::Read, &[1, 12, 13, 14]),
+    (Name::Read, &[1, 12, 13, 14, 18]),
     (Name::Write, &[12, 16]),
+    (Name::WritePacked, &[12, 16]),
     (Name::Start, &[12, 16]),
     (Name::Step, &[12, 15, 16, 17]),
     (Name::Run, &[1, 12, 15, 16, 17]),
@@ -45,13 +47,15 @@ pub struct Coverage {
     kinds: Kinds,
     /// All calls, by outputs and tallies.
     pub stakes: Stakes,
+    /// Packed files.
+    pub forms: Forms,
     /// Cycles judged by their paths, and those rejected by one; and of them those of graphs
     /// that compare names of several bits.
     path_cycles: u64,
     path_rejected: u64,
     compared_cycles: u64,
     compared_rejected: u64,
-    /// Netlists written and read back.
+    /// Files written and read back.
     pub read_back: u64,
     /// Of the sessions that are good, those whose flywheel's or handle's line was handed
     /// back, and those without one.
@@ -150,6 +154,7 @@ impl Coverage {
         }
         gaps.extend(self.kinds.gaps());
         gaps.extend(self.stakes.gaps());
+        gaps.extend(self.forms.gaps());
         if self.path_rejected == 0 || self.path_rejected == self.path_cycles {
             gaps.push("paths".into());
         }
@@ -222,6 +227,7 @@ impl fmt::Display for Coverage {
         )?;
         writeln!(f, "{}", self.kinds)?;
         writeln!(f, "{}", self.stakes)?;
+        writeln!(f, "{}", self.forms)?;
         writeln!(
             f,
             "lines handed back: {} of the flywheel, {} of the handle, {} empty",
@@ -232,7 +238,7 @@ impl fmt::Display for Coverage {
             "session pages: {} with rejected cycles, {} without, {} lines",
             self.pages, self.empty_pages, self.page_lines
         )?;
-        writeln!(f, "read(write(net)): {} netlists", self.read_back)?;
+        writeln!(f, "read(write(net)): {} files", self.read_back)?;
         write!(
             f,
             "paths: {} cycles, {} of them rejected; with wide names compared {}, {}",

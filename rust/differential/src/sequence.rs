@@ -66,7 +66,7 @@ pub fn sequence(bench: &mut Bench) -> Result<(), Mismatch> {
         false => built(bench)?,
     };
     if bench.random.once_in(4) {
-        write_and_read_back(bench, thread.net.clone())?;
+        write_and_read_back(bench, Name::Write, &thread.net)?;
     }
     for _ in 0..bench.random.within(1..=2) {
         let names = bench

@@ -1,6 +1,6 @@
 //! Of what No. 7 of document 02 adds to the calls: which kinds were met, and how often.
 
-use crate::aigers::header_of;
+use crate::aigers::{header_of, Form};
 use crate::compare::{Call, Name, Outcome};
 use crate::graphs::variables;
 use crate::netlists::net_of;
@@ -20,7 +20,7 @@ const BUILDS: [&str; 9] = [
     "12 with room for all but checked",
     "12 by one number",
 ];
-/// Of files; `alone` says that the header breaks no other limit.
+/// Of files of text; `alone` says that the header breaks no other limit.
 const FILES: [&str; 10] = [
     "O of 1",
     "O of 2",
@@ -34,8 +34,9 @@ const FILES: [&str; 10] = [
     "12 with O of 2",
 ];
 /// The calls that take a netlist.
-const ON_NETLISTS: [Name; 7] = [
+const ON_NETLISTS: [Name; 8] = [
     Name::Write,
+    Name::WritePacked,
     Name::Start,
     Name::Step,
     Name::Run,
@@ -275,7 +276,7 @@ fn of_build(text: &[u8], outcome: &Outcome) -> Vec<String> {
 }
 
 fn of_file(text: &[u8], outcome: &Outcome) -> Vec<String> {
-    let Some([variables, inputs, latches, outputs, gates]) = header_of(text) else {
+    let Some([variables, inputs, latches, outputs, gates]) = header_of(text, Form::Text) else {
         return Vec::new();
     };
     let header = [variables, inputs, latches, 1, gates].map(|count| count as u32);

@@ -1,12 +1,13 @@
 //! Every change of one byte or one number in a few small inputs, every short list of some
 //! lines as a graph, names of every width and short formulas over them, every count of
-//! outputs, every pair of some numbers as a tally and every three of some, sessions of every
+//! outputs, packed files of every small kind, every pair of some numbers as a tally and every three of some, sessions of every
 //! small kind, and session pages of every small kind and of the largest.
 
 use crate::bench::Bench;
 use crate::checked;
 use crate::compare::{Call, Lengths, Memory, Mismatch, Name};
 use crate::graphs::{MODES, WRONG_MODES};
+use crate::packed;
 use crate::pages::{compare_page_into, needed, MAX_CYCLES};
 use crate::rates;
 use crate::sessions::{compare_session, Measurement};
@@ -29,6 +30,10 @@ const CHECKED: &[u8] = b"V\ta\nE\ta\ta\tt\t1\t0\nE\ta\ta\t-\t1\t1\n";
 /// Have two outputs.
 const AIGER_OF_TWO: &[u8] = b"aag 5 2 2 2 1\n2\n4\n6 10\n8 8 8\n11\n7\n10 9 4\n";
 const NUMBERS_OF_TWO: [u16; 13] = [5, 2, 2, 2, 1, 10, 0, 8, 8, 11, 7, 9, 4];
+/// The two files packed, and one with runs of two bytes.
+const PACKED: &[u8] = b"aig 6 2 3 1 1\n5\n12 1\n10 10\n12\n\x03\x05";
+const PACKED_OF_TWO: &[u8] = b"aig 5 2 2 2 1\n10\n8 8\n11\n7\n\x01\x05";
+const LONG_RUNS: &[u8] = b"aig 66 64 0 1 2\n133\n\x81\x01\x01\x02\x80\x01";
 const TRACE: &[u8] = b"10\n01\n11\n";
 const HANDLE: &[u8] = b"00\n01\n";
 
@@ -43,6 +48,9 @@ pub fn sweep(bench: &mut Bench) -> Result<usize, Mismatch> {
         (Name::BuildChecked, CHECKED),
         (Name::Read, AIGER),
         (Name::Read, AIGER_OF_TWO),
+        (Name::Read, PACKED),
+        (Name::Read, PACKED_OF_TWO),
+        (Name::Read, LONG_RUNS),
     ] {
         for changed in changed_texts(text) {
             sweep_call(bench, Call::on_bytes(name, changed))?;
@@ -67,6 +75,7 @@ pub fn sweep(bench: &mut Bench) -> Result<usize, Mismatch> {
     for net in [changed_numbers(&NUMBERS), changed_numbers(&NUMBERS_OF_TWO)].concat() {
         for (name, bytes) in [
             (Name::Write, &b""[..]),
+            (Name::WritePacked, b""),
             (Name::Start, b""),
             (Name::Step, b"01"),
             (Name::Run, TRACE),
@@ -79,6 +88,7 @@ pub fn sweep(bench: &mut Bench) -> Result<usize, Mismatch> {
         }
     }
     count += checked::sweep(bench)?;
+    count += packed::sweep(bench)?;
     for tally in rates::pairs() {
         rates::compare_rate(bench, tally)?;
         count += 1;

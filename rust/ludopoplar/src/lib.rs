@@ -152,7 +152,22 @@ pub fn write(net: &[u16], text: &mut [u8]) -> Result<usize, Refusal> {
     Ok(length as usize)
 }
 
-/// Reads an AIGER text; returns how many numbers the netlist has, at most `LONGEST_NETLIST`.
+/// Writes a netlist in AIGER's binary form, the packed one; returns the file's length in bytes.
+/// Its lines are those of the text form without inputs and own literals, and each gate is two
+/// runs of one or two bytes. Reading it gives the netlist that reading the text gives.
+pub fn write_packed(net: &[u16], bytes: &mut [u8]) -> Result<usize, Refusal> {
+    let mut length = 0;
+    Refusal::check(raw::write_packed(net, bytes, &mut length))?;
+    Ok(length as usize)
+}
+
+/// Reads an AIGER file of either form; returns how many numbers the netlist has, at most
+/// `LONGEST_NETLIST`.
+///
+/// A file that begins with `aig` and a blank is packed, any other is read as text. Of a packed
+/// file the bytes of its gates are in no line: a byte run that is missing, over three bytes,
+/// unfinished or not shortest is refused with 18 at line 0, and so is what stands after the
+/// last gate; a difference that gives no allowed operand with 14 at line 0.
 pub fn read(text: &[u8], net: &mut [u16]) -> Result<usize, Refusal> {
     let mut length = 0;
     Refusal::check(raw::read(text, net, &mut length))?;

@@ -20,6 +20,14 @@ mod c {
             length: *mut u64,
         ) -> u64;
 
+        pub fn ludo_write_packed(
+            net: *const u16,
+            net_len: usize,
+            bytes: *mut u8,
+            bytes_len: usize,
+            length: *mut u64,
+        ) -> u64;
+
         pub fn ludo_read(
             text: *const u8,
             text_len: usize,
@@ -164,7 +172,7 @@ mod c {
     }
 }
 
-// SAFETY, of all fourteen: every pointer comes from a reference or a slice that lives
+// SAFETY, of all fifteen: every pointer comes from a reference or a slice that lives
 // through the call, with that slice's own length; the exclusive borrows keep what
 // the library writes apart from all else; the library keeps no pointer.
 
@@ -187,6 +195,18 @@ pub fn write(net: &[u16], text: &mut [u8], length: &mut u64) -> u64 {
             net.len(),
             text.as_mut_ptr(),
             text.len(),
+            length,
+        )
+    }
+}
+
+pub fn write_packed(net: &[u16], bytes: &mut [u8], length: &mut u64) -> u64 {
+    unsafe {
+        c::ludo_write_packed(
+            net.as_ptr(),
+            net.len(),
+            bytes.as_mut_ptr(),
+            bytes.len(),
             length,
         )
     }

@@ -1,11 +1,11 @@
-//! The safe calls: document 01's graph G, the edges that are terminal, names wider than a bit, the
-//! words of a start, the verdict of each run, the cycles in which a rule was at stake, the rate of
+//! The safe calls: document 01's graph G, its packed file, the edges that are terminal, names wider
+//! than a bit, the words of a start, the verdict of each run, the cycles in which a rule was at stake, the rate of
 //! each tally, the line handed back from each session, the page of each run, empty slices, refusals.
 
 use ludopoplar::{
     broken_check, broken_line, build, build_checked, first_broken, per_million, raw, read, run,
-    run_checked, session_page, start, start_checked, step, step_checked, write, CheckedTally, Part,
-    Rate, Refusal, Tally, Trace, Verdict, Words, LONGEST_NETLIST,
+    run_checked, session_page, start, start_checked, step, step_checked, write, write_packed,
+    CheckedTally, Part, Rate, Refusal, Tally, Trace, Verdict, Words, LONGEST_NETLIST,
 };
 use std::time::Instant;
 
@@ -29,6 +29,90 @@ fn built_written_and_read_back() {
     let mut back = [0; 24];
     assert_eq!(read(FILE_OF_G, &mut back), Ok(24));
     assert_eq!(back, net);
+}
+
+/// Document 02, No. 1: the packed files of G, without checked and with it.
+#[test]
+fn packed_and_read_back() {
+    const RUNS: &[u8] = b"\x04\x05\x04\x07\x0c\x02\x02\x0a\x04\x09\x12\x04\x01\x02";
+    let net = net_of_g();
+    let due = [&b"aig 12 3 2 1 7\n18\n25\n24\n"[..], RUNS].concat();
+    let mut bytes = [b'x'; 60];
+    assert_eq!(write_packed(&net, &mut bytes), Ok(38));
+    assert_eq!(bytes[..38], due);
+    assert_eq!(bytes[38..], [b'x'; 22]);
+    let mut back = [9; 30];
+    assert_eq!(read(&due, &mut back), Ok(24));
+    assert_eq!((&back[..24], &back[24..]), (&net[..], &[9; 6][..]));
+
+    let mut net = [0; 27];
+    assert_eq!(build_checked(G, &mut net), Ok(8));
+    let lines = &b"aig 13 3 2 2 8\n18\n25\n24\n27\n"[..];
+    let due = [lines, RUNS, b"\x02\x05"].concat();
+    let mut bytes = [0; 43];
+    assert_eq!(write_packed(&net, &mut bytes), Ok(43));
+    assert_eq!(bytes[..], due);
+    let mut back = [9; 27];
+    assert_eq!(read(&due, &mut back), Ok(27));
+    assert_eq!(back, net);
+}
+
+/// The answer of each packed file: its numbers, or number and line.
+#[test]
+fn packed_files() {
+    type Answer<'a> = Result<&'a [u16], (u32, u32)>;
+    let files: [(&[u8], Answer); 33] = [
+        (b"aig 1 1 0 1 0\n2\n", Ok(&[1, 1, 0, 1, 0, 2])),
+        (b"aig 1 1 0 2 0\n2\n3\n", Ok(&[1, 1, 0, 2, 0, 2, 3])),
+        (b"aig 2 1 1 1 0\n2\n5\n", Ok(&[2, 1, 1, 1, 0, 2, 0, 5])),
+        (b"aig 2 1 1 1 0\n2 0\n5\n", Ok(&[2, 1, 1, 1, 0, 2, 0, 5])),
+        (b"aig 2 1 1 1 0\n2 4\n5\n", Ok(&[2, 1, 1, 1, 0, 2, 4, 5])),
+        (b"aig 2 1 0 1 1\n4\n\x02\x02", Ok(&[2, 1, 0, 1, 1, 4, 2, 0])),
+        (b"aig 2 1 0 1 1\n4\n\x02\x00", Ok(&[2, 1, 0, 1, 1, 4, 2, 2])),
+        (b"aig 2 1 0 1 1\n4\n\x04\x00", Ok(&[2, 1, 0, 1, 1, 4, 0, 0])),
+        (b"AIG 1 1 0 1 0\n2\n", Err((13, 1))),
+        (b"aig\t1 1 0 1 0\n2\n", Err((13, 1))),
+        (b"aig 1 1 0 1 0\n2", Err((13, 2))),
+        (b"aig 1 1 0 2 0\n2\n", Err((13, 3))),
+        (b"aig 2 1 1 1 0\n4 2 0\n5\n", Err((13, 2))),
+        (b"aig 2 1 0 1 1\n\x02\x02", Err((13, 2))),
+        (b"aig 2 1 0 1 2\n", Err((14, 1))),
+        (b"aig 1 1 0 3 0\n2\n3\n2\n", Err((14, 1))),
+        (b"aig 1 1 0 1 0\n4\n", Err((14, 2))),
+        (b"aig 1 1 0 2 0\n2\n4\n", Err((14, 3))),
+        (b"aig 2 1 1 1 0\n2 6\n5\n", Err((14, 2))),
+        (b"aig 2 1 0 1 1\n6\n\x02\x02", Err((14, 2))),
+        (b"aig 2 1 0 1 1\n4\n\x00\x00", Err((14, 0))),
+        (b"aig 2 1 0 1 1\n4\n\x05\xff\xff\xff", Err((14, 0))),
+        (b"aig 2 1 0 1 1\n4\n\x02\x03", Err((14, 0))),
+        (b"aig 2 1 0 1 1\n4\n\xff\xff\x7f\x00", Err((14, 0))),
+        (b"aig 2 1 0 1 1\n4\n", Err((18, 0))),
+        (b"aig 2 1 0 1 1\n4\n\x02", Err((18, 0))),
+        (b"aig 2 1 0 1 1\n4\n\x02\x82", Err((18, 0))),
+        (b"aig 2 1 0 1 1\n4\n\xff\xff\xff\x00", Err((18, 0))),
+        (b"aig 2 1 0 1 1\n4\n\x80\x00\x00", Err((18, 0))),
+        (b"aig 2 1 0 1 1\n4\n\x82\x00\x00", Err((18, 0))),
+        (b"aig 2 1 0 1 1\n4\n\x02\x02\n", Err((18, 0))),
+        (b"aig 2 1 0 1 1\n4\n\x02\x02\x00", Err((18, 0))),
+        (b"aig 1 1 0 1 0\n2\n2\n", Err((18, 0))),
+    ];
+    for (file, due) in files {
+        let shown = file.escape_ascii();
+        let mut net = [9; 10];
+        let read = read(file, &mut net);
+        let (numbers, answer) = match due {
+            Ok(numbers) => (numbers, Ok(numbers.len())),
+            Err((number, line)) => (&[][..], Err(Refusal { number, line })),
+        };
+        assert_eq!(read, answer, "{shown}");
+        assert_eq!(net[..numbers.len()], *numbers, "{shown}");
+        assert_eq!(net[numbers.len()..], [9; 10][numbers.len()..], "{shown}");
+    }
+    let too_long = [&b"aig 1 1 0 1 0\n2\n"[..], &[0; 65_536]].concat();
+    for (length, number) in [(65_536, 18), (65_537, 1)] {
+        let refused = Refusal { number, line: 0 };
+        assert_eq!(read(&too_long[..length], &mut [0; 10]), Err(refused));
+    }
 }
 
 #[test]
@@ -505,6 +589,7 @@ fn one_or_two_outputs() {
                 let refused = step_checked(&net, b"1", &mut [], &mut values, &mut tally);
                 assert_eq!((refused, tally), (Err(no_netlist), left));
                 assert_eq!(write(&net, &mut [0; 100]), Err(no_netlist));
+                assert_eq!(write_packed(&net, &mut [0; 100]), Err(no_netlist));
             }
         }
     }
@@ -523,9 +608,12 @@ fn longest_netlists() {
         ] {
             assert_eq!(net.len(), LONGEST_NETLIST - 2 + usize::from(outputs));
             let (mut text, mut back) = (vec![0; 65_536], vec![9; LONGEST_NETLIST]);
-            let length = write(&net, &mut text).unwrap();
-            assert_eq!(read(&text[..length], &mut back), Ok(net.len()));
-            assert_eq!(back[..net.len()], net);
+            for write in [write, write_packed] {
+                let length = write(&net, &mut text).unwrap();
+                back.fill(9);
+                assert_eq!(read(&text[..length], &mut back), Ok(net.len()));
+                assert_eq!(back[..net.len()], net);
+            }
             let (mut latches, mut values) = (vec![5; 4_094], vec![5; 4_096]);
             let mut tally = CheckedTally::default();
             start_checked(&net, &mut latches, &mut tally).unwrap();
@@ -1037,6 +1125,7 @@ fn empty_slices() {
     assert_eq!(build_checked(b"", &mut []), Err(refusal(10, 0)));
     assert_eq!(read(b"", &mut []), Err(refusal(13, 1)));
     assert_eq!(write(&[], &mut []), Err(refusal(16, 0)));
+    assert_eq!(write_packed(&[], &mut []), Err(refusal(16, 0)));
     assert_eq!(session_page(b"", &[], &mut []), Err(refusal(22, 0)));
     assert_eq!(session_page(b"G", &[], &mut []), Err(refusal(12, 0)));
     // No latch, no gate, no cycle: nothing is lent but two value words.
@@ -1072,4 +1161,11 @@ fn refusals_leave_all_as_it_was() {
     let mut length = 77;
     let code = raw::read(FILE_OF_G, &mut [0; 23], &mut length);
     assert_eq!((code, length), (12 << 32, 77));
+    let mut bytes = [b'x'; 38];
+    let code = raw::write_packed(&net, &mut bytes[..37], &mut length);
+    assert_eq!((code, bytes, length), (12 << 32, [b'x'; 38], 77));
+    write_packed(&net, &mut bytes).unwrap();
+    let mut short = [9; 23];
+    let code = raw::read(&bytes, &mut short, &mut length);
+    assert_eq!((code, short, length), (12 << 32, [9; 23], 77));
 }

@@ -1,26 +1,44 @@
-//! The AIGER ASCII subset.
+//! The AIGER subset: files of text, and the calls that take or make a file of either form.
 
-use crate::lines::{lines, Line};
 use crate::netlist::{Header, Literal, Netlist, Reset};
+use crate::packed;
 use crate::refusal::{check_size, fill, Cause, Refusal};
 use std::fmt::Write as _;
 use std::ops::RangeInclusive;
 
 const MAX_AIGER_BYTES: usize = 65_536;
 
-/// Checks 1, then the lines, then 12; returns how many numbers were filled in.
+/// Checks 1, then the file from its beginning, then 12; returns how many numbers were filled
+/// in. "The header's first word tells the reader which form it has."
 pub fn read(text: &[u8], net: &mut [u16]) -> Result<usize, Refusal> {
     check_size(text, MAX_AIGER_BYTES)?;
-    let numbers = parse(text)?.numbers();
+    let netlist = match text.starts_with(packed::TAG) {
+        true => packed::parse(text)?,
+        false => parse(text)?,
+    };
+    let numbers = netlist.numbers();
     fill(net, &numbers)?;
     Ok(numbers.len())
 }
 
 /// Checks 16, then 12; returns how many bytes were filled in.
 pub fn write(net: &[u16], text: &mut [u8]) -> Result<usize, Refusal> {
+    write_as(|netlist| file(netlist).into_bytes(), net, text)
+}
+
+/// As `write`, in the packed form.
+pub fn write_packed(net: &[u16], bytes: &mut [u8]) -> Result<usize, Refusal> {
+    write_as(packed::file, net, bytes)
+}
+
+fn write_as(
+    file: impl Fn(&Netlist) -> Vec<u8>,
+    net: &[u16],
+    bytes: &mut [u8],
+) -> Result<usize, Refusal> {
     let netlist = Netlist::from_numbers(net).ok_or(Cause::NoNetlist.no_line())?;
-    let file = file(&netlist).into_bytes();
-    fill(text, &file)?;
+    let file = file(&netlist);
+    fill(bytes, &file)?;
     Ok(file.len())
 }
 
@@ -56,13 +74,9 @@ fn file(netlist: &Netlist) -> String {
 /// The netlist of a file. Each line is judged for its shape (13) before its
 /// numbers (14); a number over 65,535 breaks the limits wherever it stands.
 fn parse(text: &[u8]) -> Result<Netlist, Refusal> {
-    let mut reader = Reader {
-        lines: lines(text),
-        line: 0,
-    };
-    let numbers = reader.numbers(b"aag ", 5..=5)?;
-    let header = Header::from_numbers([0, 1, 2, 3, 4].map(|field| numbers[field]));
-    let mut netlist = reader.within_limits(Netlist::new(header))?;
+    let mut reader = Reader::new(text);
+    let mut netlist = reader.header(b"aag ")?;
+    let header = netlist.header;
     for index in 0..header.inputs as usize {
         let numbers = reader.numbers(b"", 1..=1)?;
         reader.literal(numbers[0], header.input(index).literal())?;
@@ -73,10 +87,7 @@ fn parse(text: &[u8]) -> Result<Netlist, Refusal> {
         let reset = numbers.get(2).copied().unwrap_or(0);
         reader.within_limits(netlist.add_latch(numbers[1], reset))?;
     }
-    for _ in 0..header.outputs {
-        let numbers = reader.numbers(b"", 1..=1)?;
-        reader.within_limits(netlist.add_output(numbers[0]))?;
-    }
+    reader.outputs(&mut netlist)?;
     for index in 0..header.gates as usize {
         let numbers = reader.numbers(b"", 3..=3)?;
         reader.literal(numbers[0], header.gate(index).literal())?;
@@ -86,31 +97,61 @@ fn parse(text: &[u8]) -> Result<Netlist, Refusal> {
     Ok(netlist)
 }
 
-struct Reader<Lines> {
-    lines: Lines,
+/// The lines of a file, one after another, and what stands after those read.
+pub struct Reader<'a> {
+    pub rest: &'a [u8],
     /// The line last asked for, there or missing.
     line: u32,
 }
 
-impl<'a, Lines: Iterator<Item = Line<'a>>> Reader<Lines> {
+impl<'a> Reader<'a> {
+    pub fn new(text: &'a [u8]) -> Reader<'a> {
+        Reader {
+            rest: text,
+            line: 0,
+        }
+    }
+
+    /// The next line without its LF; `None` if no LF ends it.
+    fn next_line(&mut self) -> Option<&'a [u8]> {
+        let end = self.rest.iter().position(|byte| *byte == b'\n')?;
+        let (line, rest) = self.rest.split_at(end);
+        self.rest = &rest[1..];
+        Some(line)
+    }
+
     /// The numbers of the next line after its prefix, as many as `count` allows;
     /// 13 if the line is missing or of another shape.
-    fn numbers(
+    pub fn numbers(
         &mut self,
         prefix: &[u8],
         count: RangeInclusive<usize>,
     ) -> Result<Vec<u32>, Refusal> {
         self.line += 1;
-        self.lines
-            .next()
-            .filter(|line| line.ended)
-            .and_then(|line| line.bytes.strip_prefix(prefix))
+        self.next_line()
+            .and_then(|line| line.strip_prefix(prefix))
             .and_then(parse_numbers)
             .filter(|numbers| count.contains(&numbers.len()))
             .ok_or(Cause::AigerShape.at(self.line))
     }
 
-    fn within_limits<T>(&self, part: Option<T>) -> Result<T, Refusal> {
+    /// The header after its first word, with which a netlist begins.
+    pub fn header(&mut self, tag: &[u8]) -> Result<Netlist, Refusal> {
+        let numbers = self.numbers(tag, 5..=5)?;
+        let header = Header::from_numbers([0, 1, 2, 3, 4].map(|field| numbers[field]));
+        self.within_limits(Netlist::new(header))
+    }
+
+    /// A line for each output.
+    pub fn outputs(&mut self, netlist: &mut Netlist) -> Result<(), Refusal> {
+        for _ in 0..netlist.header.outputs {
+            let numbers = self.numbers(b"", 1..=1)?;
+            self.within_limits(netlist.add_output(numbers[0]))?;
+        }
+        Ok(())
+    }
+
+    pub fn within_limits<T>(&self, part: Option<T>) -> Result<T, Refusal> {
         part.ok_or(Cause::AigerLimits.at(self.line))
     }
 
@@ -120,10 +161,10 @@ impl<'a, Lines: Iterator<Item = Line<'a>>> Reader<Lines> {
     }
 
     /// "Nothing after the last gate."
-    fn end(&mut self) -> Result<(), Refusal> {
-        match self.lines.next() {
-            Some(line) => Err(Cause::AigerShape.at(line.number)),
-            None => Ok(()),
+    fn end(&self) -> Result<(), Refusal> {
+        match self.rest {
+            [] => Ok(()),
+            _ => Err(Cause::AigerShape.at(self.line + 1)),
         }
     }
 }
@@ -201,7 +242,14 @@ mod tests {
     #[test]
     fn wrong_shapes() {
         let rows = [
-            (FILE.replace("aag", "aig"), 1),
+            (FILE.replace("aag", "AAG"), 1),
+            (FILE.replace("aag", "AIG"), 1),
+            (FILE.replace("aag", "abc"), 1),
+            (FILE.replace("aag ", "aag\t"), 1),
+            (FILE.replace("aag ", "aig\t"), 1),
+            (FILE.replace("aag", "ai"), 1),
+            (FILE.replace("aag", "aigg"), 1),
+            (FILE.replace("aag", " aig"), 1),
             (FILE.replace("aag ", "aag  "), 1),
             (FILE.replace("aag 5", "aag 05"), 1),
             (FILE.replace("3 1 1,", "3 1 1 0,"), 1),

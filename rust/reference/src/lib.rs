@@ -1,4 +1,4 @@
-//! Document 01, as Nos. 2, 3, 5 and 7 of document 02 change it, and Nos. 8, 9 and 12 of
+//! Document 01, as Nos. 1, 2, 3, 5 and 7 of document 02 change it, and Nos. 8, 9 and 12 of
 //! document 02, once more in plain safe Rust, written from their sentences alone; and what
 //! the program `sheet` prints.
 //!
@@ -14,6 +14,7 @@ mod graph;
 mod lines;
 mod netlist;
 mod operand;
+mod packed;
 mod page;
 mod paths;
 mod rate;
@@ -24,7 +25,7 @@ mod simulator;
 mod testing;
 mod trace;
 
-pub use aiger::{read, write};
+pub use aiger::{read, write, write_packed};
 pub use broken::{broken_check, first_broken, Part, Trace};
 pub use builder::{build, formula_of_gates, Outputs};
 pub use formula::{parse as parse_formula, Formula, Operator, Parsed};

@@ -22,6 +22,7 @@ pub enum Cause {
     CycleWrong = 15,
     NoNetlist = 16,
     TallyFull = 17,
+    RunShape = 18,
     WrongWidth = 19,
     NoRate = 21,
     NotPrintable = 22,

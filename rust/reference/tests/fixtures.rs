@@ -1,6 +1,6 @@
-//! The fixtures of the three programs, which are limit cases, hold what this implementation gives.
+//! The fixtures of the programs, most of them limit cases, hold what this implementation gives.
 
-use reference::{build, rejected_cycles, sheet, write, Graph, Outputs};
+use reference::{build, rejected_cycles, sheet, write, write_packed, Graph, Outputs};
 use std::path::Path;
 
 fn fixture(program: &str, name: &str) -> Vec<u8> {
@@ -16,6 +16,15 @@ fn file_of_the_longest_graph() {
     build(&graph, Outputs::Accept, &mut net).unwrap();
     let length = write(&net, &mut text).unwrap();
     assert_eq!(text[..length], fixture("graph2aiger", "stdout"));
+}
+
+#[test]
+fn packed_file_of_a_graph() {
+    let graph = fixture("graph2aig", "stdin");
+    let (mut net, mut bytes) = ([0; 8_194], [0; 65_536]);
+    build(&graph, Outputs::Accept, &mut net).unwrap();
+    let length = write_packed(&net, &mut bytes).unwrap();
+    assert_eq!(bytes[..length], fixture("graph2aig", "stdout"));
 }
 
 #[test]

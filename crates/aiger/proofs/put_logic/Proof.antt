@@ -1,6 +1,13 @@
 -- `put_logic` meets its contract. Assumes nothing.
+use mathlib.Core.Path.{refl}
+use Prim.Native.Nat.{_+_, _*_, _≤_}
+use native.Mathlib.Omega.{arith}
+use denote.Ref.{now}
+use lib.ListN.{length}
 use borrow.Author.Needs.{needs}
 use Rattle.text.proofs.WriterLaws.{then}
+use Rattle.netlist.specs.Layout.{latchCount, outputCount}
+use Rattle.aiger.proofs.RowLaws.{outputs-written}
 use Rattle.aiger.proofs.put_logic.Statement.{statement}
 use Rattle.aiger.proofs.put_logic.Tie as tie
 
@@ -31,14 +38,26 @@ cast-operands c = search needs
 add-operands : tie.Need-add-operands
 add-operands c = search needs
 
-put-outputs-requires : tie.Need-put-outputs-requires
-put-outputs-requires c κs = search needs
+mul-put-literals : tie.Need-mul-put-literals
+mul-put-literals c = search needs
+
+sub-put-literals : tie.Need-sub-put-literals
+sub-put-literals c = search needs
+
+part-put-literals-start : tie.Need-part-put-literals-start
+part-put-literals-start c = search needs
+
+part-put-literals-end : tie.Need-part-put-literals-end
+part-put-literals-end c = search needs
+
+put-literals-requires : tie.Need-put-literals-requires
+put-literals-requires c κs = search needs
 
 add-t12 : tie.Need-add-t12
 add-t12 c = search needs
 
-add-t22 : tie.Need-add-t22
-add-t22 c = search needs
+add-t25 : tie.Need-add-t25
+add-t25 c = search needs
 
 put-gates-requires : tie.Need-put-gates-requires
 put-gates-requires c κs = search needs
@@ -50,7 +69,11 @@ returns : tie.Need-returns
 returns c =
     let e2 = c .before .before in
     let e1 = e2 .before .before .before .before in
-    then (e1 .put-outputs .ensures) (e2 .put-gates .ensures)
+    let s = e1 .before .before .before .before .before .before .before .before .before in
+    let net = now (s .args .net) in
+    let from = 5 + 2 * latchCount net in
+    let end : from + outputCount net ≤ length net = omega arith in
+    then (outputs-written net from (from + outputCount net) refl refl end (e1 .put-literals .ensures)) (e2 .put-gates .ensures)
 
 pub put-logic-spec : {M : Type 1} → statement M
 put-logic-spec =
@@ -65,9 +88,13 @@ put-logic-spec =
     add-outputs
     cast-operands
     add-operands
-    put-outputs-requires
+    mul-put-literals
+    sub-put-literals
+    part-put-literals-start
+    part-put-literals-end
+    put-literals-requires
     add-t12
-    add-t22
+    add-t25
     put-gates-requires
     same-length
     returns)

@@ -1,6 +1,8 @@
 -- `ludo_write` meets its contract: `write` answers what `writeOf` gives, and each case of the answer fixes code and
 -- result. Assumes nothing.
-use Rattle.ludopoplar.specs.Circuits.{writeAs, writeCall}
+use Rattle.aiger.specs.Write.{writeOf}
+use Rattle.ludopoplar.specs.Circuits.{writeAs, writeWith, writeCall}
+use Rattle.ludopoplar.proofs.FileLaws.{writes}
 use Rattle.ludopoplar.proofs.ludo_write.Statement.{statement}
 use Rattle.ludopoplar.proofs.ludo_write.Tie as tie
 
@@ -23,21 +25,21 @@ same-length : tie.Need-same-length
 same-length c = c .before .before .before .before .before .write .kept .1 .0
 
 returns : tie.Need-returns
-unfolding writeCall writeAs
+unfolding writeCall writeWith writeAs writeOf
 returns c =
     let told = c .before in
     let called = told .before .before .before .before in
-    rw (← called .write .ensures .0, told .written .given .1)
+    (rw (← called .write .ensures .0, told .written .given .1), writes _ _ _ _ _ (rw (← called .write .ensures .0, told .written .given .1)))
 
 same-length-2 : tie.Need-same-length-2
 same-length-2 c = c .before .before .before .before .before .before .before .write .kept .1 .0
 
 returns-2 : tie.Need-returns-2
-unfolding writeCall writeAs
+unfolding writeCall writeWith writeAs writeOf
 returns-2 c =
     let told = c .before .before .before in
     let called = told .before .before .before .before in
-    rw (← called .write .ensures .0, told .written2 .given .1, c .code .ensures, c .before .refusal .ensures)
+    (rw (← called .write .ensures .0, told .written2 .given .1, c .code .ensures, c .before .refusal .ensures), writes _ _ _ _ _ (rw (← called .write .ensures .0, told .written2 .given .1, c .code .ensures, c .before .refusal .ensures)))
 
 pub ludo-write-spec : {M : Type 1} → statement M
 ludo-write-spec =

@@ -1,12 +1,13 @@
 -- `file_page` meets its contract. Assumes nothing.
 use borrow.Author.Needs.{needs}
 use denote.Ref.{now}
+use Rattle.page.specs.Private.Files.{fileIn}
 use Rattle.page.proofs.PageLaws.{asPage, file-page}
 use Rattle.page.proofs.file_page.Statement.{statement}
 use Rattle.page.proofs.file_page.Tie as tie
 
-write-requires : tie.Need-write-requires
-write-requires c κs = search needs
+write-file-requires : tie.Need-write-file-requires
+write-file-requires c κs = search needs
 
 enum-known-written : tie.Need-enum-known-written
 enum-known-written c = search needs
@@ -22,7 +23,7 @@ unfolding asPage
 returns c =
     let e = c .before .before .before .before .before in
     let s = e .before .before .before .before in
-    rw (c .before .written .given .1) at (file-page (now (s .args .net)) (now (s .args .out)) (s .pre) (e .write .ensures .0))
+    rw (c .before .written .given .1) at (file-page (fileIn (s .args .packed) (now (s .args .net))) (now (s .args .net)) (now (s .args .out)) (s .pre) (e .write-file .ensures))
 
 same-length-2 : tie.Need-same-length-2
 same-length-2 c = search needs
@@ -32,13 +33,13 @@ unfolding asPage
 returns-2 c =
     let e = c .before .before .before .before in
     let s = e .before .before .before .before in
-    rw (c .enum-told .given .1) at (file-page (now (s .args .net)) (now (s .args .out)) (s .pre) (e .write .ensures .0))
+    rw (c .enum-told .given .1) at (file-page (fileIn (s .args .packed) (now (s .args .net))) (now (s .args .net)) (now (s .args .out)) (s .pre) (e .write-file .ensures))
 
 pub file-page-spec : {M : Type 1} → statement M
 file-page-spec =
     tie.close
     (tie.spec
-    write-requires
+    write-file-requires
     enum-known-written
     enum-told
     same-length

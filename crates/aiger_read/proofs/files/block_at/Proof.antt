@@ -28,14 +28,20 @@ enum-known-given c = search needs
 store-given-requires : tie.Need-store-given-requires Inv-loop μ-loop
 store-given-requires c κs = search needs
 
+add-place : tie.Need-add-place Inv-loop μ-loop
+add-place c =
+    let sg = c .before .before in
+    let lo = sg .before .before .before .before .before .before .before in
+    omega (arith, sg .store-given .ensures .2, lo .loop .inv .bound, lo .loop .inv .within, lo .before .before .before .pre)
+
 enum-known-fault : tie.Need-enum-known-fault Inv-loop μ-loop
 enum-known-fault c = search needs
 
-cast-t18 : tie.Need-cast-t18 Inv-loop μ-loop
-cast-t18 c = search needs
+cast-t19 : tie.Need-cast-t19 Inv-loop μ-loop
+cast-t19 c = search needs
 
-add-t19 : tie.Need-add-t19 Inv-loop μ-loop
-add-t19 c = search needs
+add-t20 : tie.Need-add-t20 Inv-loop μ-loop
+add-t20 c = search needs
 
 same-length : tie.Need-same-length Inv-loop μ-loop
 same-length c = c .before .before .before .before .before .before .loop .inv .same
@@ -79,9 +85,10 @@ block-at-spec =
     line-of-requires
     enum-known-given
     store-given-requires
+    add-place
     enum-known-fault
-    cast-t18
-    add-t19
+    cast-t19
+    add-t20
     same-length
     returns
     add-k

@@ -1,8 +1,8 @@
 -- `store_given` meets its contract. Assumes nothing.
-use Rattle.aiger_read.proofs.StoreLaws.{stores-none, stores-one, stores-two}
+use Rattle.aiger_lines.proofs.StoreLaws.{stores-none, stores-one, stores-two}
 use borrow.Author.Needs.{needs}
-use Rattle.aiger_read.proofs.files.store_given.Statement.{statement}
-use Rattle.aiger_read.proofs.files.store_given.Tie as tie
+use Rattle.aiger_lines.proofs.stores.store_given.Statement.{statement}
+use Rattle.aiger_lines.proofs.stores.store_given.Tie as tie
 
 enum-told : tie.Need-enum-told
 enum-told c = search needs
@@ -13,17 +13,11 @@ enum-known-given c = search needs
 store-requires : tie.Need-store-requires
 store-requires c κs = search needs
 
-add-result : tie.Need-add-result
-add-result c = search needs
-
 enum-known-given-2 : tie.Need-enum-known-given-2
 enum-known-given-2 c = search needs
 
 store-pair-requires : tie.Need-store-pair-requires
 store-pair-requires c κs = search needs
-
-add-result-2 : tie.Need-add-result-2
-add-result-2 c = search needs
 
 returns : tie.Need-returns
 returns c = stores-none _ _ _ (c .enum-told .given .1)
@@ -51,10 +45,8 @@ store-given-spec =
     enum-told
     enum-known-given
     store-requires
-    add-result
     enum-known-given-2
     store-pair-requires
-    add-result-2
     returns
     same-length
     returns-2

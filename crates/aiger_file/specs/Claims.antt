@@ -1,0 +1,81 @@
+-- What the contract of read claims of both forms: it takes exactly their files, and what was written in either form
+-- reads as the same netlist. Assumes nothing.
+use mathlib.Core.Path.{_≡_}
+use mathlib.Core.Bool.{Bool, true, false}
+use mathlib.Core.List.{List, _++_}
+use mathlib.Core.Logic.{_⊎_}
+use Prim.Native.Nat.{ℕ, _<_, _≤_}
+use lib.ListN.{length, take, drop}
+use Rattle.text.specs.Quoted.{bytes}
+use Rattle.netlist.specs.Layout.{sizeOf}
+use Rattle.netlist.specs.Valid.{isNetlist}
+use Rattle.aiger.specs.Format.{fileWith}
+use Rattle.packed.specs.Format.{packedWith}
+use Rattle.aiger_lines.specs.declared.Fault.{Fault}
+use Rattle.aiger_read.specs.declared.Cause.{Cause as TextCause}
+use Rattle.aiger_read.specs.Read.{refusalOf as textRefusalOf, readOf as textReadOf}
+use Rattle.packed_read.specs.declared.Cause.{Cause}
+use Rattle.packed_read.specs.declared.Cause.the-variants.{TextTooLong, ShortBuffer, FaultyLine, FaultyRun}
+use Rattle.packed_read.specs.declared.ReadOutcome.the-variants.{Numbers, Refused}
+use Rattle.packed_read.specs.Read.{refusalOf, readEnd, readOf as packedReadOf}
+use Rattle.packed_read.specs.Claims.{EachByte}
+use Rattle.aiger_file.specs.Read.{causeOf, endOf, readOf}
+
+-- the two forms
+pub data Form : Type 0 where
+  ascii : Form
+  packed : Form
+
+-- a file of the netlist in a form, in which the latches k with `explicit k` have their reset written though it is 0
+unfoldable pub fileIn : Form → List ℕ → (ℕ → Bool) → List ℕ
+fileIn ascii net explicit = fileWith net explicit
+fileIn packed net explicit = packedWith net explicit
+
+-- the file that is written: no reset 0 is
+unfoldable pub writtenIn : Form → List ℕ → List ℕ
+writtenIn form net = fileIn form net (λ _. false)
+
+-- a text is a file of the netlist net in one of the forms, with some of its resets 0 explicit
+pub record IsFile (text net : List ℕ) : Type 0 where
+  pub netlist : isNetlist net ≡ true
+  pub exact : length net ≡ sizeOf net
+  pub form : Form
+  pub explicit : ℕ → Bool
+  pub is : text ≡ fileIn form net explicit
+
+-- what a read is refused with, the buffer as it was
+abbrev pub Refuses : List ℕ → List ℕ → Cause → Type 0
+Refuses text buf cause = readOf text buf ≡ readEnd (Refused cause) buf
+
+-- THE CLAIM, of any text and any buffer lent
+pub record ReadMeans : Type 0 where
+  -- the first word `aig` tells the packed form, whose reader answers; all else is answered by the reader of the text form,
+  -- with the same numbers, refusals and buffer
+  pub word : (more buf : List ℕ) → readOf (bytes "aig " ++ more) buf ≡ packedReadOf (bytes "aig " ++ more) buf
+  pub else : (text buf : List ℕ) → ((more : List ℕ) → text ≡ bytes "aig " ++ more → ⊥) → readOf text buf ≡ endOf (textReadOf text buf)
+  pub numbered : (cause : TextCause) → refusalOf (causeOf cause) ≡ textRefusalOf cause
+  -- a file in either form is taken where the buffer has room for its netlist: the numbers stand first, the surplus stays
+  pub takes : (text net buf : List ℕ) → IsFile text net → length net ≤ length buf
+      → readOf text buf ≡ readEnd (Numbers (length net)) (net ++ drop (length net) buf)
+  -- and refused as such where it has none
+  pub short : (text net buf : List ℕ) → IsFile text net → length buf < length net → Refuses text buf ShortBuffer
+  -- what is taken is a file in one of the forms, and gives the numbers of its netlist
+  pub only : (text buf : List ℕ) (n : ℕ) (after : List ℕ) → EachByte text → readOf text buf ≡ readEnd (Numbers n) after
+      → (net : List ℕ) × IsFile text net × (n ≡ length net) × (after ≡ net ++ drop n buf)
+  -- a text of more than 65,536 bytes is refused as such
+  pub long : (text buf : List ℕ) → 65536 < length text → Refuses text buf TextTooLong
+  -- any other text that is no file in either form is refused at a faulty line or for a byte run
+  pub other : (text buf : List ℕ) → EachByte text → length text ≤ 65536 → ((net : List ℕ) → IsFile text net → ⊥)
+      → ((fault : Fault) × (line : ℕ) × Refuses text buf (FaultyLine fault line)) ⊎ ((fault : Fault) × Refuses text buf (FaultyRun fault))
+  -- and whatever is refused leaves the buffer as it was
+  pub kept : (text buf : List ℕ) (cause : Cause) → readOf text buf .answer ≡ Refused cause → Refuses text buf cause
+  -- what was written of a netlist in either form, whatever its surplus, reads as the same numbers
+  pub back : (form : Form) (net buf : List ℕ) → isNetlist net ≡ true → sizeOf net ≤ length buf
+      → readOf (writtenIn form net) buf ≡ readEnd (Numbers (sizeOf net)) (take (sizeOf net) net ++ drop (sizeOf net) buf)
+  -- so both forms read alike, whatever the buffer
+  pub either : (form other : Form) (net buf : List ℕ) → isNetlist net ≡ true → readOf (writtenIn form net) buf ≡ readOf (writtenIn other net) buf
+  -- netlists with the same text, written in whichever forms, are the same
+  pub same : (form shape : Form) (net other : List ℕ) → isNetlist net ≡ true → isNetlist other ≡ true → writtenIn form net ≡ writtenIn shape other
+      → take (sizeOf net) net ≡ take (sizeOf other) other
+  -- and no text is a file in both forms
+  pub apart : (net other : List ℕ) (explicit written : ℕ → Bool) → fileIn ascii net explicit ≡ fileIn packed other written → ⊥

@@ -1,0 +1,41 @@
+-- What the contract of write claims of a netlist's packed file and of its byte runs. Assumes nothing.
+use mathlib.Core.Path.{_≡_}
+use mathlib.Core.Bool.{Bool, true}
+use mathlib.Core.List.{List, [], _∷_, _++_}
+use Prim.Native.Nat.{ℕ, suc, _+_, _*_, _%_, _<_, _≤_}
+use lib.ListN.{length, getD, take, drop}
+use Rattle.netlist.specs.Layout.{sizeOf}
+use Rattle.netlist.specs.Valid.{isNetlist}
+use Rattle.aiger.specs.Write.{writeEnd, writeAs}
+use Rattle.aiger.specs.declared.Written.the-variants.{Bytes}
+use Rattle.packed.specs.Runs.{run}
+use Rattle.packed.specs.Format.{packedWith, packedOf}
+
+-- the number of a byte run: seven bits of each byte, lowest first
+unfoldable pub valueOf : List ℕ → ℕ
+valueOf [] = 0
+valueOf (b ∷ s) = b % 128 + 128 * valueOf s
+
+-- THE CLAIM, of any number, numbers and buffer lent
+pub record WriteMeans : Type 0 where
+  -- a byte run has the bits of its number
+  pub value : (n : ℕ) → valueOf (run n) ≡ n
+  -- one byte at least; the last has no top bit, and each before it has
+  pub some : (n : ℕ) → 1 ≤ length (run n)
+  pub last : (n k : ℕ) → suc k ≡ length (run n) → getD (run n) k 0 < 128
+  pub more : (n k : ℕ) → suc k < length (run n) → (128 ≤ getD (run n) k 0) × (getD (run n) k 0 < 256)
+  -- as few as can be: the last is 0 only where it is the only one
+  pub fewest : (n k : ℕ) → suc (suc k) ≡ length (run n) → 1 ≤ getD (run n) (suc k) 0
+  -- a netlist is written where the buffer has room for its file: the file stands first, the surplus stays
+  pub writes : (net text : List ℕ) → isNetlist net ≡ true → length (packedOf net) ≤ length text
+      → writeAs (packedOf net) net text ≡ writeEnd (Bytes (length (packedOf net))) (packedOf net ++ drop (length (packedOf net)) text)
+  -- and nowhere else
+  pub only : (net text : List ℕ) (n : ℕ) (after : List ℕ) → writeAs (packedOf net) net text ≡ writeEnd (Bytes n) after
+      → (isNetlist net ≡ true) × (length (packedOf net) ≤ length text)
+  -- a buffer of 28,706 bytes has room for every file, whichever resets 0 are explicit
+  pub short : (net : List ℕ) (explicit : ℕ → Bool) → isNetlist net ≡ true → length (packedWith net explicit) ≤ 28706
+  -- and some file has as many
+  pub longest : (net : List ℕ) × (explicit : ℕ → Bool) × (isNetlist net ≡ true) × (length (packedWith net explicit) ≡ 28706)
+  -- the netlist's own numbers settle all of it: surplus numbers say nothing
+  pub own : (net other text : List ℕ) → isNetlist net ≡ true → take (sizeOf net) other ≡ take (sizeOf net) net
+      → writeAs (packedOf other) other text ≡ writeAs (packedOf net) net text

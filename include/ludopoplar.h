@@ -52,11 +52,11 @@
        26     0      width of lines outside 1 to 64
 
      Lines count from 1; the first faulty line decides, and in it the lower number, also where an edge's two
-     formulas have one each. Build checks 1, the lines, 10, 11, 12; read 1, the lines, then of a packed file its
-     byte runs in order, each for 18 before 14, then 12; write, packed write and start 16, 12; step 16, 15, 12,
-     17; run 1, then as step; per million 21; broken check 1 of either trace, 26, 15 of the flywheel trace, 15 of
-     the handle trace, 25; session page 1, 22, 12. A call whose name ends in _checked checks what the one without
-     it checks, in the same order.
+     formulas have one each. Build checks 1, the lines, 10, 11, 12; read 1, the lines, then of a packed file
+     its byte runs in order, each for 18 before 14, then 18 for what follows them, then 12; write, packed write
+     and start 16, 12; step 16, 15, 12, 17; run 1, then as step; per million 21; broken check 1 of either
+     trace, 26, 15 of the flywheel trace, 15 of the handle trace, 25; session page 1, 22, 12. A call whose name
+     ends in _checked checks what the one without it checks, in the same order.
 
    Netlist: uint16_t numbers, 5 + 2L + O + 2A of them, at most 8,195
      M I L O A               highest variable, inputs, latches, outputs, AND gates

@@ -7,6 +7,7 @@ use mathlib.Core.Logic.{_⊎_, inl, inr}
 use Prim.Native.Nat.{ℕ, _<_, _≤_}
 use native.Mathlib.Omega.{arith}
 use native.Mathlib.Decide.{decLt}
+use borrow.Author.Tests.{le-leb}
 use lib.ListN.{length, getD, take, drop}
 use Rattle.text.specs.Quoted.{byte, bytes}
 use Rattle.netlist.specs.Layout.{sizeOf}
@@ -18,13 +19,14 @@ use Rattle.packed.specs.Format.{packedHeader, packedWith, packedOf}
 use Rattle.packed.proofs.FormatLaws.{trimmed-packed}
 use Rattle.aiger_lines.specs.declared.Fault.{Fault}
 use Rattle.aiger_lines.specs.declared.Fault.the-variants.{WrongShape, OutOfLimits}
-use Rattle.aiger_lines.specs.Heads.{hasTag}
+use Rattle.aiger_lines.specs.Heads.{hasTag, headAt, onHead}
 use Rattle.aiger_lines.proofs.HeadLaws.{tag-at}
 use Rattle.aiger_read.specs.declared.Cause.{Cause as TextCause}
 use Rattle.aiger_read.specs.declared.Cause.the-variants as text
 use Rattle.aiger_read.specs.declared.ReadOutcome.{ReadOutcome as TextOutcome}
 use Rattle.aiger_read.specs.declared.ReadOutcome.the-variants as told
-use Rattle.aiger_read.specs.Read.{ReadEnd as TextEnd, readEnd as textEnd, readOf as textReadOf, refusalOf as textRefusalOf}
+use Rattle.aiger_read.specs.Read.{ReadEnd as TextEnd, readEnd as textEnd, maxText, readAs as textReadAs, readOf as textReadOf, refusalOf as textRefusalOf}
+use Rattle.aiger_read.specs.Files.{fileRead}
 use Rattle.aiger_read.specs.Claims.{ReadMeans as TextMeans, IsFile as IsText}
 use Rattle.aiger_read.proofs.ClaimLaws.{read-means as text-means}
 use Rattle.packed_read.specs.declared.Cause.{Cause}
@@ -32,7 +34,7 @@ use Rattle.packed_read.specs.declared.Cause.the-variants.{TextTooLong, ShortBuf
 use Rattle.packed_read.specs.declared.ReadOutcome.{ReadOutcome}
 use Rattle.packed_read.specs.declared.ReadOutcome.the-variants.{Numbers, Refused}
 use Rattle.packed_read.specs.Read.{ReadEnd, readEnd, readOf as packedReadOf, refusalOf}
-use Rattle.packed_read.specs.Claims.{EachByte, IsPacked, PackedMeans}
+use Rattle.packed_read.specs.Claims.{IsPacked, PackedMeans}
 use Rattle.packed_read.proofs.ClaimLaws.{read-means as packed-means}
 use Rattle.aiger_file.specs.Read.{causeOf, outcomeOf, endOf, readOf}
 use Rattle.aiger_file.specs.Claims.{Form, ascii, packed, fileIn, writtenIn, IsFile, Refuses, ReadMeans}
@@ -73,6 +75,16 @@ numbered text.TextTooLong = refl
 numbered text.ShortBuffer = refl
 numbered (text.FaultyLine WrongShape line) = refl
 numbered (text.FaultyLine OutOfLimits line) = refl
+
+-- ---- a text of neither word
+
+neither : (s buf : List ℕ) → ((more : List ℕ) → s ≡ bytes "aig " ++ more → ⊥) → ((more : List ℕ) → s ≡ bytes "aag " ++ more → ⊥) → length s ≤ 65536 → Refuses s buf (FaultyLine WrongShape 1)
+unfolding endOf outcomeOf causeOf textReadOf textReadAs fileRead headAt onHead
+neither s buf packs texts l = go (hasTag (byte "a") s) refl
+  where
+    go : (t : Bool) → hasTag (byte "a") s ≡ t → Refuses s buf (FaultyLine WrongShape 1)
+    go true h = absurd (texts (drop 4 s) (tag-at (byte "a") s h .text))
+    go false h = else s buf packs ∙ rw (le-leb (length s) maxText l, h)
 
 -- ---- the answers of the text form among those of either form
 
@@ -168,7 +180,7 @@ module _ (p : PackedMeans) (t : TextMeans) where
       (λ g e. e ∙ refused-as s buf text.ShortBuffer (t .short s net buf g l))
       f
 
-  only : (s buf : List ℕ) (n : ℕ) (after : List ℕ) → EachByte s → readOf s buf ≡ readEnd (Numbers n) after
+  only : (s buf : List ℕ) (n : ℕ) (after : List ℕ) → ((k : ℕ) → getD s k 0 < 256) → readOf s buf ≡ readEnd (Numbers n) after
       → (net : List ℕ) × IsFile s net × (n ≡ length net) × (after ≡ net ++ drop n buf)
   unfolding endOf
   only s buf n after each h = go (hasTag (byte "i") s) refl
@@ -190,7 +202,7 @@ module _ (p : PackedMeans) (t : TextMeans) where
       go true e = by-packed s buf e ∙ p .long s buf l
       go false e = by-text s buf e ∙ refused-as s buf text.TextTooLong (t .long s buf l)
 
-  other : (s buf : List ℕ) → EachByte s → length s ≤ 65536 → ((net : List ℕ) → IsFile s net → ⊥)
+  other : (s buf : List ℕ) → ((k : ℕ) → getD s k 0 < 256) → length s ≤ 65536 → ((net : List ℕ) → IsFile s net → ⊥)
       → ((fault : Fault) × (line : ℕ) × Refuses s buf (FaultyLine fault line)) ⊎ ((fault : Fault) × Refuses s buf (FaultyRun fault))
   unfolding causeOf
   other s buf each l none = go (hasTag (byte "i") s) refl
@@ -246,6 +258,7 @@ read-means =
     record {
       word = word;
       else = else;
+      neither = neither;
       numbered = numbered;
       takes = takes packed-means text-means;
       short = short packed-means text-means;

@@ -5,20 +5,20 @@ use mathlib.Core.Bool.{Bool, true, false}
 use mathlib.Core.List.{List, _++_}
 use mathlib.Core.Logic.{_⊎_}
 use Prim.Native.Nat.{ℕ, _<_, _≤_}
-use lib.ListN.{length, take, drop}
+use lib.ListN.{length, getD, take, drop}
 use Rattle.text.specs.Quoted.{bytes}
 use Rattle.netlist.specs.Layout.{sizeOf}
 use Rattle.netlist.specs.Valid.{isNetlist}
 use Rattle.aiger.specs.Format.{fileWith}
 use Rattle.packed.specs.Format.{packedWith}
 use Rattle.aiger_lines.specs.declared.Fault.{Fault}
+use Rattle.aiger_lines.specs.declared.Fault.the-variants.{WrongShape}
 use Rattle.aiger_read.specs.declared.Cause.{Cause as TextCause}
 use Rattle.aiger_read.specs.Read.{refusalOf as textRefusalOf, readOf as textReadOf}
 use Rattle.packed_read.specs.declared.Cause.{Cause}
 use Rattle.packed_read.specs.declared.Cause.the-variants.{TextTooLong, ShortBuffer, FaultyLine, FaultyRun}
 use Rattle.packed_read.specs.declared.ReadOutcome.the-variants.{Numbers, Refused}
 use Rattle.packed_read.specs.Read.{refusalOf, readEnd, readOf as packedReadOf}
-use Rattle.packed_read.specs.Claims.{EachByte}
 use Rattle.aiger_file.specs.Read.{causeOf, endOf, readOf}
 
 -- the two forms
@@ -53,19 +53,22 @@ pub record ReadMeans : Type 0 where
   -- with the same numbers, refusals and buffer
   pub word : (more buf : List ℕ) → readOf (bytes "aig " ++ more) buf ≡ packedReadOf (bytes "aig " ++ more) buf
   pub else : (text buf : List ℕ) → ((more : List ℕ) → text ≡ bytes "aig " ++ more → ⊥) → readOf text buf ≡ endOf (textReadOf text buf)
+  -- a text that begins with neither word has a header of the wrong shape
+  pub neither : (text buf : List ℕ) → ((more : List ℕ) → text ≡ bytes "aig " ++ more → ⊥) → ((more : List ℕ) → text ≡ bytes "aag " ++ more → ⊥)
+      → length text ≤ 65536 → Refuses text buf (FaultyLine WrongShape 1)
   pub numbered : (cause : TextCause) → refusalOf (causeOf cause) ≡ textRefusalOf cause
   -- a file in either form is taken where the buffer has room for its netlist: the numbers stand first, the surplus stays
   pub takes : (text net buf : List ℕ) → IsFile text net → length net ≤ length buf
       → readOf text buf ≡ readEnd (Numbers (length net)) (net ++ drop (length net) buf)
   -- and refused as such where it has none
   pub short : (text net buf : List ℕ) → IsFile text net → length buf < length net → Refuses text buf ShortBuffer
-  -- what is taken is a file in one of the forms, and gives the numbers of its netlist
-  pub only : (text buf : List ℕ) (n : ℕ) (after : List ℕ) → EachByte text → readOf text buf ≡ readEnd (Numbers n) after
+  -- what is taken, of bytes, is a file in one of the forms, and gives the numbers of its netlist
+  pub only : (text buf : List ℕ) (n : ℕ) (after : List ℕ) → ((k : ℕ) → getD text k 0 < 256) → readOf text buf ≡ readEnd (Numbers n) after
       → (net : List ℕ) × IsFile text net × (n ≡ length net) × (after ≡ net ++ drop n buf)
   -- a text of more than 65,536 bytes is refused as such
   pub long : (text buf : List ℕ) → 65536 < length text → Refuses text buf TextTooLong
   -- any other text that is no file in either form is refused at a faulty line or for a byte run
-  pub other : (text buf : List ℕ) → EachByte text → length text ≤ 65536 → ((net : List ℕ) → IsFile text net → ⊥)
+  pub other : (text buf : List ℕ) → ((k : ℕ) → getD text k 0 < 256) → length text ≤ 65536 → ((net : List ℕ) → IsFile text net → ⊥)
       → ((fault : Fault) × (line : ℕ) × Refuses text buf (FaultyLine fault line)) ⊎ ((fault : Fault) × Refuses text buf (FaultyRun fault))
   -- and whatever is refused leaves the buffer as it was
   pub kept : (text buf : List ℕ) (cause : Cause) → readOf text buf .answer ≡ Refused cause → Refuses text buf cause

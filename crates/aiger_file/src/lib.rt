@@ -5,6 +5,8 @@ use aiger_lines::has_tag;
 use packed_read::Cause;
 use packed_read::ReadOutcome;
 ghost use mathlib.Core.Path.{_≡_};
+ghost use Prim.Native.Nat.{ℕ, _<_};
+ghost use lib.ListN.{getD};
 ghost use Rattle.packed_read.specs.Read.{readEnd};
 ghost use Rattle.aiger_file.specs.Read.{causeOf, outcomeOf, readOf};
 ghost use Rattle.aiger_file.specs.Claims.{ReadMeans};
@@ -33,6 +35,7 @@ fn outcome_of(outcome: aiger_read::ReadOutcome) -> ReadOutcome
 // Reads the netlist of a file to the front of a lent buffer; a refusal leaves the buffer as it was.
 pub fn read(text: &[u8], net: &mut [u16]) -> ReadOutcome
     ensures { λ r. ⌜ readEnd r (now (net .exit)) ≡ readOf (now (text .entry)) (now (net .entry)) ⌝ }
+    ensures bytes { λ _. ⌜ ((k : ℕ) → getD (now (text .entry)) k 0 < 256) ⌝ }
     ensures exact { λ _. ⌜ ReadMeans ⌝ }
 {
     if has_tag(text, b'i') {

@@ -47,7 +47,7 @@ module _ (second : ℕ) (s : List ℕ) where
     headed-read : (x : Fields) → LineIs x l → not (l .formed) ≡ false
         → headed x ≡ cond (headerOk (v 0) (v 1) (v 2) (v 3) (v 4)) (heading (v 0) (v 1) (v 2) (v 3) (v 4) (l .next)) (misheaded OutOfLimits)
     unfolding LineIs headed
-    headed-read wrong i h = absurd (true≢false (sym (not-false (l .formed) h) ∙ i))
+    headed-read wrong i h = absurd (true≢false (sym (not-false (l .formed) h) ∙ ap (λ (x : Line). x .formed) i))
     headed-read (fields vs q) i h = rw (i .values 0, i .values 1, i .values 2, i .values 3, i .values 4, i .next)
 
     pub head-bad : not (l .formed) ≡ false → headerOk (v 0) (v 1) (v 2) (v 3) (v 4) ≡ false → misheaded OutOfLimits ≡ headAt second s

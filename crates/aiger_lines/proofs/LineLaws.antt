@@ -15,7 +15,7 @@ use Rattle.aiger_lines.specs.declared.Fault.the-variants.{WrongShape}
 use Rattle.aiger_lines.specs.declared.Line.{Line}
 use Rattle.aiger_lines.specs.Fields.{Fields, wrong, fields, onNumber, numberThen, before, fieldsOf, eitherOf}
 use Rattle.aiger_lines.specs.Lines.{Row, fault, judged}
-use Rattle.aiger_lines.specs.Private.Steps.{LineIs}
+use Rattle.aiger_lines.specs.Private.Steps.{noLine, LineIs}
 
 -- a byte that is not 0 stands within the text
 pub byte-inside : (s : List ℕ) (p : ℕ) → 1 ≤ getD s p 0 → p < length s
@@ -114,7 +114,7 @@ module _ (s : List ℕ) (at last : ℕ) where
             ∙ sym (List·getD-eq-default (take (suc last) (set values last v)) 0 {n = j} (rw length-take (omega arith)))
 
 -- another shape
-pub misshapen : (x : Fields) (l : Line) → x ≡ wrong → l .formed ≡ false → LineIs x l
+pub misshapen : (x : Fields) (l : Line) → x ≡ wrong → l ≡ noLine → LineIs x l
 unfolding LineIs
 misshapen x l e f = rw e f
 
@@ -130,7 +130,7 @@ judged-wrong (fields vs q) l is h f = absurd (true≢false (sym (is .formed) ∙
 pub judged-as : (x : Fields) (l : Line) → LineIs x l → not (l .formed) ≡ false → (f : List ℕ → ℕ → Row) (r : Row)
     → ((vs : List ℕ) → ((k : ℕ) → getD (l .values) k 0 ≡ getD vs k 0) → r ≡ f vs (l .next)) → r ≡ judged x f
 unfolding LineIs judged
-judged-as wrong l is h f r g = absurd (true≢false (sym (not-false (l .formed) h) ∙ is))
+judged-as wrong l is h f r g = absurd (true≢false (sym (not-false (l .formed) h) ∙ ap (λ (x : Line). x .formed) is))
 judged-as (fields vs q) l is h f r g = g vs (is .values) ∙ ap (f vs) (is .next)
 
 -- ---- as many numbers as asked for
@@ -175,7 +175,7 @@ module _ (s : List ℕ) (n p : ℕ) where
 
   wrong-true : (l : Line) → LineIs wrong l → l .formed ≡ true → ⊥
   unfolding LineIs
-  wrong-true l i f = true≢false (sym f ∙ i)
+  wrong-true l i f = true≢false (sym f ∙ ap (λ (x : Line). x .formed) i)
 
   fields-false : (l : Line) (vs : List ℕ) (q : ℕ) → LineIs (fields vs q) l → l .formed ≡ false → ⊥
   unfolding LineIs

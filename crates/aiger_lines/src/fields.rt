@@ -4,11 +4,10 @@ use text::Number;
 use text::byte_at;
 use text::read_number;
 ghost use mathlib.Core.Path.{_≡_};
-ghost use mathlib.Core.Bool.{false};
 ghost use Prim.Native.Nat.{_≤_};
 ghost use Rattle.aiger_lines.specs.Fields.{numberThen, fieldsOf, eitherOf};
 ghost use Rattle.aiger_lines.specs.Heads.{hasTag};
-ghost use Rattle.aiger_lines.specs.Private.Steps.{LineIs};
+ghost use Rattle.aiger_lines.specs.Private.Steps.{noLine, LineIs};
 
 // A number and the byte after it. The byte is not 0, which stands for the end of the text.
 fn number_then(s: &[u8], at: usize, after: u8) -> Number
@@ -27,7 +26,7 @@ fn number_then(s: &[u8], at: usize, after: u8) -> Number
 
 // A line of another shape.
 fn misformed() -> Line
-    ensures { λ r. ⌜ r .formed ≡ false ⌝ }
+    ensures { λ r. ⌜ r ≡ noLine ⌝ }
 {
     Line {
         formed: false,

@@ -1,6 +1,7 @@
 // What both forms of an AIGER file share: the numbers of a line, the header, what a latch and an output
-// say, and how numbers are stored. Knows nothing of inputs, of gates or of what stands where in a file.
-// Exports that lines are read just where their texts stand, and when the numbers of lines are a netlist.
+// say, and how numbers are stored. Knows nothing of the lines of inputs, of gates or of what stands where in
+// a file. Its laws, for the readers above: lines are read just where their texts stand, and when the numbers
+// of lines are a netlist.
 use netlist::Literal;
 
 mod fields;

@@ -1,9 +1,9 @@
 -- What the clauses of write and read give the calls that are named after them. Assumes nothing.
 use mathlib.Core.Path.{_≡_, refl, ap, ap₂, _∙_}
 use mathlib.Core.List.{List, _++_}
-use Prim.Native.Nat.{ℕ}
+use Prim.Native.Nat.{ℕ, _<_}
 use native.Mathlib.Omega.{arith}
-use lib.ListN.{length, drop}
+use lib.ListN.{length, getD, drop}
 use Rattle.aiger.specs.Write as write
 use Rattle.aiger.specs.Write.{WriteEnd}
 use Rattle.aiger.proofs.WriteLaws.{no-netlist, too-short, written}
@@ -12,7 +12,6 @@ use Rattle.packed_read.specs.declared.ReadOutcome.{ReadOutcome}
 use Rattle.packed_read.specs.declared.ReadOutcome.the-variants.{Numbers, Refused}
 use Rattle.packed_read.specs.Read as read
 use Rattle.packed_read.specs.Read.{ReadEnd, readEnd}
-use Rattle.packed_read.specs.Claims.{EachByte}
 use Rattle.aiger_file.specs.Read.{readOf}
 use Rattle.aiger_file.specs.Claims.{IsFile, ReadMeans}
 use Rattle.ludopoplar.specs.Codes.{codeOf}
@@ -32,7 +31,7 @@ writes file net before was end is =
     }
 
 -- ---- read
-module _ (means : ReadMeans) (text before : List ℕ) (was : ℕ) (end : Filled) (is : end ≡ readCall text before was) where
+module _ (means : ReadMeans) (text before : List ℕ) (each : (k : ℕ) → getD text k 0 < 256) (was : ℕ) (end : Filled) (is : end ≡ readCall text before was) where
   -- what the call ends with, by what read answers and leaves
   ends : (e : ReadEnd) → readOf text before ≡ e → end ≡ circuits.readAs (e .answer) (e .net) was
   unfolding readCall
@@ -42,15 +41,15 @@ module _ (means : ReadMeans) (text before : List ℕ) (was : ℕ) (end : Filled)
   unfolding circuits.readAs
   refused cause h = ends (readEnd (Refused cause) before) h
 
-  only-as : (a : ReadOutcome) → readOf text before .answer ≡ a → EachByte text → end .code ≡ 0
+  only-as : (a : ReadOutcome) → readOf text before .answer ≡ a → end .code ≡ 0
       → (net : List ℕ) × IsFile text net × (end ≡ filled 0 (net ++ drop (length net) before) (length net))
   unfolding circuits.readAs codeOf
-  only-as (Numbers n) h each z =
+  only-as (Numbers n) h z =
       let e : readOf text before ≡ readEnd (Numbers n) (readOf text before .net) = ap (λ (a : ReadOutcome). readEnd a (readOf text before .net)) h in
       let x = means .only text before n (readOf text before .net) each e in
       let read : end ≡ filled 0 (readOf text before .net) n = ends (readEnd (Numbers n) (readOf text before .net)) e in
       (x .0, x .1, read ∙ ap₂ (filled 0) (x .3 ∙ ap (λ (k : ℕ). x .0 ++ drop k before) (x .2)) (x .2))
-  only-as (Refused cause) h each z =
+  only-as (Refused cause) h z =
       let c : end .code ≡ codeOf (read.refusalOf cause) = ap (λ (f : Filled). f .code) (refused cause (means .kept text before cause h)) in
       absurd (omega (arith, numbered .read-numbered cause))
 

@@ -9,7 +9,6 @@ use Rattle.netlist.specs.Valid.{isNetlist}
 use Rattle.packed_read.specs.declared.Cause.{Cause}
 use Rattle.packed_read.specs.declared.ReadOutcome.the-variants.{Numbers, Refused}
 use Rattle.packed_read.specs.Read.{refusalOf}
-use Rattle.packed_read.specs.Claims.{EachByte}
 use Rattle.aiger_file.specs.Read.{readOf}
 use Rattle.aiger_file.specs.Claims.{IsFile}
 use Rattle.ludopoplar.specs.Circuits.{Filled, filled}
@@ -27,6 +26,6 @@ pub record CallReads (text before : List ℕ) (was : ℕ) (end : Filled) : Type 
   pub taken : (net : List ℕ) → IsFile text net → length net ≤ length before → end ≡ filled 0 (net ++ drop (length net) before) (length net)
   pub short : (net : List ℕ) → IsFile text net → length before < length net → end ≡ filled (12 * 2 ^ 32) before was
   pub long : 65536 < length text → end ≡ filled (1 * 2 ^ 32) before was
-  pub only : EachByte text → end .code ≡ 0 → (net : List ℕ) × IsFile text net × (end ≡ filled 0 (net ++ drop (length net) before) (length net))
+  pub only : end .code ≡ 0 → (net : List ℕ) × IsFile text net × (end ≡ filled 0 (net ++ drop (length net) before) (length net))
   pub refused : (cause : Cause) → readOf text before .answer ≡ Refused cause
       → end ≡ filled (refusalOf cause .number * 2 ^ 32 + refusalOf cause .line) before was

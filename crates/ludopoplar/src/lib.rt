@@ -105,8 +105,8 @@ pub extern "C" fn ludo_write_packed(net: &[u16], bytes: &mut [u8], length: &mut 
 {
     let written = packed::write(net, bytes);
     match written {
-        Written::Bytes(end) => {
-            *length = end as u64;
+        Written::Bytes(size) => {
+            *length = size as u64;
             ACCEPTED
         }
         Written::Refused(cause) => code(cause.refusal()),

@@ -28,6 +28,14 @@ packed-of-G = refl
 length-of-G : length (packedOf netlistG) ≡ 38
 length-of-G = rw packed-of-G
 
+-- resets 0, 1 and the latch's own literal
+unfoldable resets : List ℕ
+resets = 5 ∷ 1 ∷ 3 ∷ 2 ∷ 1 ∷ 2 ∷ 0 ∷ 10 ∷ 1 ∷ 8 ∷ 8 ∷ 11 ∷ 4 ∷ 9 ∷ 2 ∷ []
+
+packed-of-resets : packedOf resets ≡ bytes "aig 5 1 3 2 1\n2\n10 1\n8 8\n11\n4\n" ++ (1 ∷ 7 ∷ [])
+unfolding resets packedOf packedWith packedHeader packedLatch packedLatchRow packedGate gateRuns run runOf outputLine literalRow line literalOf digits digitsOf
+packed-of-resets = refl
+
 -- with the second output, whose gate is the last
 unfoldable checkedG : List ℕ
 checkedG =

@@ -1,15 +1,19 @@
 -- What the contract of write claims of a netlist's packed file and of its byte runs. Assumes nothing.
 use mathlib.Core.Path.{_≡_}
-use mathlib.Core.Bool.{Bool, true}
+use mathlib.Core.Bool.{Bool, true, false}
 use mathlib.Core.List.{List, [], _∷_, _++_}
+use mathlib.Core.Logic.{_⊎_}
 use Prim.Native.Nat.{ℕ, suc, _+_, _*_, _%_, _<_, _≤_}
 use lib.ListN.{length, getD, take, drop}
+use Rattle.text.specs.Quoted.{bytes}
+use Rattle.text.specs.Writer.{joined}
 use Rattle.netlist.specs.Layout.{sizeOf}
 use Rattle.netlist.specs.Valid.{isNetlist}
+use Rattle.aiger.specs.Rows.{line}
 use Rattle.aiger.specs.Write.{writeEnd, writeAs}
 use Rattle.aiger.specs.declared.Written.the-variants.{Bytes}
 use Rattle.packed.specs.Runs.{run}
-use Rattle.packed.specs.Format.{packedWith, packedOf}
+use Rattle.packed.specs.Format.{packedLatch, packedGate, packedWith, packedOf}
 
 -- the number of a byte run: seven bits of each byte, lowest first
 unfoldable pub valueOf : List ℕ → ℕ
@@ -26,6 +30,24 @@ pub record WriteMeans : Type 0 where
   pub more : (n k : ℕ) → suc k < length (run n) → (128 ≤ getD (run n) k 0) × (getD (run n) k 0 < 256)
   -- as few as can be: the last is 0 only where it is the only one
   pub fewest : (n k : ℕ) → suc (suc k) ≡ length (run n) → 1 ≤ getD (run n) (suc k) 0
+  -- a file is the word `aig`, the header's counts, a line for each latch, the literal of each output in a line, and the
+  -- gates, one behind the other
+  pub parts : (net : List ℕ) (explicit : ℕ → Bool)
+      → packedWith net explicit
+      ≡ bytes "aig "
+      ++ (line (getD net 0 0) (getD net 1 0 ∷ getD net 2 0 ∷ getD net 3 0 ∷ getD net 4 0 ∷ [])
+      ++ (joined (packedLatch net explicit) (getD net 2 0)
+      ++ (joined (λ k. line (getD net (5 + 2 * getD net 2 0 + k) 0) []) (getD net 3 0) ++ joined (packedGate net) (getD net 4 0))))
+  -- a latch is its next literal; and its reset, as it is, where that is not 0 or is explicit
+  pub bare : (net : List ℕ) (explicit : ℕ → Bool) (k : ℕ) → getD net (5 + 2 * k + 1) 0 ≡ 0 → explicit k ≡ false
+      → packedLatch net explicit k ≡ line (getD net (5 + 2 * k) 0) []
+  pub reset : (net : List ℕ) (explicit : ℕ → Bool) (k : ℕ) → (getD net (5 + 2 * k + 1) 0 ≡ 0 → ⊥) ⊎ (explicit k ≡ true)
+      → packedLatch net explicit k ≡ line (getD net (5 + 2 * k) 0) (getD net (5 + 2 * k + 1) 0 ∷ [])
+  -- a gate is two runs: how far its first operand is below it, and how far the second is below the first
+  pub gate : (net : List ℕ) (k : ℕ) → isNetlist net ≡ true → k < getD net 4 0
+      → (d e : ℕ) × (packedGate net k ≡ run d ++ run e)
+      × (getD net (5 + 2 * getD net 2 0 + getD net 3 0 + 2 * k) 0 + d ≡ 2 * (getD net 1 0 + getD net 2 0 + 1 + k))
+      × (getD net (5 + 2 * getD net 2 0 + getD net 3 0 + 2 * k + 1) 0 + e ≡ getD net (5 + 2 * getD net 2 0 + getD net 3 0 + 2 * k) 0)
   -- a netlist is written where the buffer has room for its file: the file stands first, the surplus stays
   pub writes : (net text : List ℕ) → isNetlist net ≡ true → length (packedOf net) ≤ length text
       → writeAs (packedOf net) net text ≡ writeEnd (Bytes (length (packedOf net))) (packedOf net ++ drop (length (packedOf net)) text)

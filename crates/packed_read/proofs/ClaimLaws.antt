@@ -37,9 +37,9 @@ use Rattle.packed_read.specs.declared.ReadOutcome.the-variants.{Numbers,
 use Rattle.packed_read.specs.Lines.{secondAt}
 use Rattle.packed_read.specs.Files.{packedRead}
 use Rattle.packed_read.specs.Read.{refusalOf, ReadEnd, readEnd, maxText, readAs, readOf}
-use Rattle.packed_read.specs.Claims.{EachByte, IsPacked, toLatch, toOutput, toGate, StartsWithHeader, StartsWithOne, StartsWithTwo, StartsWithRun, Refuses, PackedMeans}
+use Rattle.packed_read.specs.Claims.{IsPacked, toLatch, toOutput, toGate, StartsWithHeader, StartsWithOne, StartsWithTwo, StartsWithRun, Refuses, PackedMeans}
 use Rattle.packed_read.specs.Private.Steps.{causeOf}
-use Rattle.packed_read.proofs.RunLaws.{BytesFrom, run-complete, run-none}
+use Rattle.packed_read.proofs.RunLaws.{EachByte, BytesFrom, run-complete, run-none}
 use Rattle.packed_read.proofs.GateLaws.{second-none, second-above, gate-none, gate-zero, gate-above, gate-good}
 use Rattle.packed_read.proofs.ReadLaws.{faulty-as, line-cause}
 use Rattle.packed_read.proofs.TextLaws.{latch-above, latch-wrong}
@@ -148,7 +148,6 @@ header-limits buf m i l o a more hm hi hl ho ha e small =
 
 -- what a text is from a place on
 bytes-rest : {s : List ℕ} {p : ℕ} {t : List ℕ} → At s p t (length s) → EachByte t → BytesFrom s p
-unfolding EachByte
 bytes-rest {s} {p} {t} a bytes k h =
     let n : p + (k - p) ≡ k = omega arith in
     let e : getD t (k - p) 0 ≡ getD s k 0 = ap (λ (l : List ℕ). getD l (k - p) 0) (at-rest a) ∙ getD-drop p s (k - p) 0 ∙ ap (λ (j : ℕ). getD s j 0) n in

@@ -50,6 +50,7 @@ pub record Table : Type 0 where
   pub outputs : reads (bytes "aig 1 1 0 2 0\n2\n3\n") (1 ∷ 1 ∷ 0 ∷ 2 ∷ 0 ∷ 2 ∷ 3 ∷ [])
   pub own-reset : reads (bytes "aig 2 1 1 1 0\n2 4\n5\n") (2 ∷ 1 ∷ 1 ∷ 1 ∷ 0 ∷ 2 ∷ 4 ∷ 5 ∷ [])
   pub explicit : reads (bytes "aig 2 1 1 1 0\n2 0\n5\n") (2 ∷ 1 ∷ 1 ∷ 1 ∷ 0 ∷ 2 ∷ 0 ∷ 5 ∷ [])
+  pub one-reset : reads (bytes "aig 2 1 1 1 0\n2 1\n5\n") (2 ∷ 1 ∷ 1 ∷ 1 ∷ 0 ∷ 2 ∷ 1 ∷ 5 ∷ [])
   pub plain : reads (bytes "aig 2 1 1 1 0\n2\n5\n") (2 ∷ 1 ∷ 1 ∷ 1 ∷ 0 ∷ 2 ∷ 0 ∷ 5 ∷ [])
   -- the header: another tag, no blank after it, none at all, a missing number, limits
   pub other-tag : refuses (bytes "aag 1 1 0 1 0\n2\n2\n") (FaultyLine WrongShape 1)
@@ -76,6 +77,7 @@ pub record Table : Type 0 where
   pub gate-both : reads (gate (2 ∷ 2 ∷ [])) (gateNet 2 0)
   pub gate-alike : reads (gate (2 ∷ 0 ∷ [])) (gateNet 2 2)
   pub gate-false : reads (gate (4 ∷ 0 ∷ [])) (gateNet 0 0)
+  pub two-bytes : reads (bytes "aig 64 63 0 1 1\n128\n" ++ (128 ∷ 1 ∷ 0 ∷ [])) (64 ∷ 63 ∷ 0 ∷ 1 ∷ 1 ∷ 128 ∷ 0 ∷ 0 ∷ [])
   -- no first run, no second
   pub first-missing : refuses (gate []) (FaultyRun WrongShape)
   pub second-run-missing : refuses (gate (2 ∷ [])) (FaultyRun WrongShape)
@@ -91,6 +93,8 @@ pub record Table : Type 0 where
   pub four-bytes : refuses (gate (255 ∷ 255 ∷ 255 ∷ [])) (FaultyRun WrongShape)
   pub unfinished : refuses (gate (255 ∷ [])) (FaultyRun WrongShape)
   pub second-unfinished : refuses (gate (2 ∷ 130 ∷ [])) (FaultyRun WrongShape)
+  pub second-longer : refuses (gate (2 ∷ 130 ∷ 0 ∷ [])) (FaultyRun WrongShape)
+  pub second-three : refuses (gate (2 ∷ 255 ∷ 255 ∷ 127 ∷ [])) (FaultyRun OutOfLimits)
   -- something behind the last gate, or behind the outputs where there is none
   pub extra-end : refuses (gate (2 ∷ 2 ∷ 10 ∷ [])) (FaultyRun WrongShape)
   pub extra-zero : refuses (gate (2 ∷ 2 ∷ 0 ∷ [])) (FaultyRun WrongShape)
@@ -107,6 +111,7 @@ table =
       outputs = refl;
       own-reset = refl;
       explicit = refl;
+      one-reset = refl;
       plain = refl;
       other-tag = refl;
       tab = refl;
@@ -129,6 +134,7 @@ table =
       gate-both = refl;
       gate-alike = refl;
       gate-false = refl;
+      two-bytes = refl;
       first-missing = refl;
       second-run-missing = refl;
       first-zero = refl;
@@ -141,6 +147,8 @@ table =
       four-bytes = refl;
       unfinished = refl;
       second-unfinished = refl;
+      second-longer = refl;
+      second-three = refl;
       extra-end = refl;
       extra-zero = refl;
       extra-byte = refl;

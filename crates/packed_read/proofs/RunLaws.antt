@@ -16,7 +16,10 @@ use Rattle.packed_read.specs.Runs.{Run, took, broken, last, more, bytesA
 use Rattle.packed_read.specs.Private.Steps.{top}
 use Rattle.packed_read.proofs.ByteLaws.{bytes-end, bytes-last, bytes-over, bytes-more, last-only, last-none, last-some, tops}
 
--- each number from p on is a byte
+-- each number is a byte, and each from p on
+abbrev pub EachByte : List ℕ → Type 0
+EachByte s = (k : ℕ) → getD s k 0 < 256
+
 abbrev pub BytesFrom : List ℕ → ℕ → Type 0
 BytesFrom s p = (k : ℕ) → p ≤ k → getD s k 0 < 256
 

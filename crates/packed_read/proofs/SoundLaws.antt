@@ -19,7 +19,8 @@ use Rattle.aiger_lines.proofs.RunLaws.{head-rows}
 use Rattle.aiger_lines.proofs.LayoutLaws.{netOf}
 use Rattle.aiger_lines.proofs.NetLaws.{Laid, Says, laid, laid-netlist}
 use Rattle.packed_read.specs.Files.{bodyOf, packedRead}
-use Rattle.packed_read.specs.Claims.{EachByte, IsPacked}
+use Rattle.packed_read.specs.Claims.{IsPacked}
+use Rattle.packed_read.proofs.RunLaws.{EachByte}
 use Rattle.packed_read.proofs.TextLaws.{LatchRead, GateRead, latch-sound, gate-sound}
 use Rattle.packed_read.proofs.BodyLaws.{Body, body-read}
 
@@ -34,7 +35,6 @@ module _ (s : List ℕ) (bytes : EachByte s) (m i l o a q : ℕ) (ks : List ℕ)
   output-step k h = output-sound _ _ _ _ s _ (literalOf m true) (b .outputs .steps k h)
 
   gate-step : (k : ℕ) → k < a → GateRead s (literalOf (i + l + 1 + k) false) (b .gates .F k) (b .gates .P k) (b .gates .N k) (b .gates .F (suc k)) (b .gates .P (suc k))
-  unfolding EachByte
   gate-step k h = gate-sound s _ _ _ _ _ (literalOf (i + l + 1 + k) false) (λ j g. bytes j) (rw zero-add at (b .gates .steps k h))
 
   -- ---- the netlist

@@ -21,10 +21,6 @@ use Rattle.packed_read.specs.declared.Cause.the-variants.{TextTooLong, S
 use Rattle.packed_read.specs.declared.ReadOutcome.the-variants.{Numbers, Refused}
 use Rattle.packed_read.specs.Read.{refusalOf, readEnd, readOf}
 
--- each is a byte
-unfoldable pub EachByte : List ℕ → Type 0
-EachByte text = (k : ℕ) → getD text k 0 < 256
-
 -- a text is a packed file of the netlist net, with some of its resets 0 explicit
 pub record IsPacked (text net : List ℕ) : Type 0 where
   pub netlist : isNetlist net ≡ true
@@ -91,13 +87,13 @@ pub record PackedMeans : Type 0 where
       → readOf text buf ≡ readEnd (Numbers (length net)) (net ++ drop (length net) buf)
   -- and refused as such where it has none
   pub short : (text net buf : List ℕ) → IsPacked text net → length buf < length net → Refuses text buf ShortBuffer
-  -- what is taken is a packed file, and gives the numbers of its netlist
-  pub only : (text buf : List ℕ) (n : ℕ) (after : List ℕ) → EachByte text → readOf text buf ≡ readEnd (Numbers n) after
+  -- what is taken, of bytes, is a packed file, and gives the numbers of its netlist
+  pub only : (text buf : List ℕ) (n : ℕ) (after : List ℕ) → ((k : ℕ) → getD text k 0 < 256) → readOf text buf ≡ readEnd (Numbers n) after
       → (net : List ℕ) × IsPacked text net × (n ≡ length net) × (after ≡ net ++ drop n buf)
   -- a text of more than 65,536 bytes is refused as such
   pub long : (text buf : List ℕ) → 65536 < length text → Refuses text buf TextTooLong
   -- any other text that is no packed file is refused at a faulty line or for a byte run
-  pub other : (text buf : List ℕ) → EachByte text → length text ≤ 65536 → ((net : List ℕ) → IsPacked text net → ⊥)
+  pub other : (text buf : List ℕ) → ((k : ℕ) → getD text k 0 < 256) → length text ≤ 65536 → ((net : List ℕ) → IsPacked text net → ⊥)
       → ((fault : Fault) × (line : ℕ) × Refuses text buf (FaultyLine fault line)) ⊎ ((fault : Fault) × Refuses text buf (FaultyRun fault))
   -- what was written of a netlist, whatever its surplus, reads as the same numbers
   pub back : (net buf : List ℕ) → isNetlist net ≡ true → sizeOf net ≤ length buf
@@ -128,7 +124,7 @@ pub record PackedMeans : Type 0 where
       → literalOf (maximum net) true < lit → lit < 100000 → length (toOutput net explicit k ++ (literalRow lit ++ more)) ≤ 65536
       → Refuses (toOutput net explicit k ++ (literalRow lit ++ more)) buf (FaultyLine OutOfLimits (latchCount net + 2 + k))
   -- where gate k is due, of literal g: what starts with no byte run is refused as such
-  pub first-shape : (net buf : List ℕ) (explicit : ℕ → Bool) (k : ℕ) (more : List ℕ) → EachByte more → isNetlist net ≡ true → k < gateCount net
+  pub first-shape : (net buf : List ℕ) (explicit : ℕ → Bool) (k : ℕ) (more : List ℕ) → ((k : ℕ) → getD more k 0 < 256) → isNetlist net ≡ true → k < gateCount net
       → (StartsWithRun more → ⊥) → length (toGate net explicit k ++ more) ≤ 65536
       → Refuses (toGate net explicit k ++ more) buf (FaultyRun WrongShape)
   -- a first number of 0 or above g, whatever follows, breaks the limits
@@ -136,7 +132,7 @@ pub record PackedMeans : Type 0 where
       → d < 2097152 → (d ≡ 0) ⊎ (literalOf (gateVariable net k) false < d) → length (toGate net explicit k ++ (run d ++ more)) ≤ 65536
       → Refuses (toGate net explicit k ++ (run d ++ more)) buf (FaultyRun OutOfLimits)
   -- behind a good one, what starts with no byte run is refused as such
-  pub second-shape : (net buf : List ℕ) (explicit : ℕ → Bool) (k d : ℕ) (more : List ℕ) → EachByte more → isNetlist net ≡ true → k < gateCount net
+  pub second-shape : (net buf : List ℕ) (explicit : ℕ → Bool) (k d : ℕ) (more : List ℕ) → ((k : ℕ) → getD more k 0 < 256) → isNetlist net ≡ true → k < gateCount net
       → 1 ≤ d → d ≤ literalOf (gateVariable net k) false → (StartsWithRun more → ⊥) → length (toGate net explicit k ++ (run d ++ more)) ≤ 65536
       → Refuses (toGate net explicit k ++ (run d ++ more)) buf (FaultyRun WrongShape)
   -- and a second number above the first operand breaks the limits

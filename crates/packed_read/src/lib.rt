@@ -8,6 +8,8 @@ use netlist::Literal;
 use netlist::Variable;
 use text::Refusal;
 ghost use mathlib.Core.Path.{_≡_};
+ghost use Prim.Native.Nat.{ℕ, _<_};
+ghost use lib.ListN.{getD};
 ghost use Rattle.packed_read.specs.Read.{refusalOf, readEnd, readOf};
 ghost use Rattle.packed_read.specs.Claims.{PackedMeans};
 ghost use Rattle.packed_read.specs.Private.Steps.{causeOf};
@@ -87,6 +89,7 @@ fn cause_of(fault: Fault, line: u32) -> Cause
 // refusal leaves the buffer as it was.
 pub fn read(text: &[u8], net: &mut [u16]) -> ReadOutcome
     ensures { λ r. ⌜ readEnd r (now (net .exit)) ≡ readOf (now (text .entry)) (now (net .entry)) ⌝ }
+    ensures bytes { λ _. ⌜ ((k : ℕ) → getD (now (text .entry)) k 0 < 256) ⌝ }
     ensures exact { λ _. ⌜ PackedMeans ⌝ }
 {
     if text.len() > MAX_TEXT {

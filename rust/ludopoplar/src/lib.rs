@@ -153,8 +153,8 @@ pub fn write(net: &[u16], text: &mut [u8]) -> Result<usize, Refusal> {
 }
 
 /// Writes a netlist in AIGER's binary form, the packed one; returns the file's length in bytes.
-/// Its lines are those of the text form without inputs and own literals, and each gate is two
-/// runs of one or two bytes. Reading it gives the netlist that reading the text gives.
+/// Its lines are those of the text form with `aig` for `aag`, without inputs, gates and own
+/// literals; each gate is two runs of one or two bytes. Reading it gives the netlist that reading the text gives.
 pub fn write_packed(net: &[u16], bytes: &mut [u8]) -> Result<usize, Refusal> {
     let mut length = 0;
     Refusal::check(raw::write_packed(net, bytes, &mut length))?;

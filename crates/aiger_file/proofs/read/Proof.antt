@@ -1,4 +1,5 @@
 -- `read` meets its contract: the reader of the form answers. Assumes nothing.
+use native.Mathlib.Omega.{arith}
 use Rattle.aiger_file.specs.Read.{endOf, readOf}
 use Rattle.aiger_file.proofs.ClaimLaws.{read-means}
 use borrow.Author.Needs.{needs}
@@ -25,7 +26,7 @@ unfolding readOf
 returns c =
     let r = c .before .before in
     let i = r .before .before in
-    (rw (← i .before .has-tag .ensures, i .if1 .taken) (r .read .ensures .0), read-means)
+    (rw (← i .before .has-tag .ensures, i .if1 .taken) (r .read .ensures .0), (λ k. omega (arith, i .before .before .before .shared-slice-known .given k), read-means))
 
 same-length-2 : tie.Need-same-length-2
 same-length-2 c = search needs
@@ -35,7 +36,7 @@ unfolding readOf endOf
 returns-2 c =
     let r = c .before .before .before in
     let i = r .before .before in
-    (rw (← i .before .has-tag .ensures, i .if1 .left, ← r .read2 .ensures .0, c .outcome-of .ensures), read-means)
+    (rw (← i .before .has-tag .ensures, i .if1 .left, ← r .read2 .ensures .0, c .outcome-of .ensures), (λ k. omega (arith, i .before .before .before .shared-slice-known .given k), read-means))
 
 pub read-spec : {M : Type 1} → statement M
 read-spec =

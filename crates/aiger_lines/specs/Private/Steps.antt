@@ -28,8 +28,12 @@ pub record Holds (l : Line) (vs : List ℕ) (q : ℕ) : Type 0 where
   pub next : l .next ≡ q
   pub values : (k : ℕ) → getD (l .values) k 0 ≡ getD vs k 0
 
+-- another shape
+abbrev pub noLine : Line
+noLine = record { formed = false; values = 0 ∷ 0 ∷ 0 ∷ 0 ∷ 0 ∷ []; next = 0 }
+
 unfoldable pub LineIs : Fields → Line → Type 0
-LineIs wrong l = l .formed ≡ false
+LineIs wrong l = l ≡ noLine
 LineIs (fields vs q) l = Holds l vs q
 
 -- ---- what a line gives

@@ -28,7 +28,7 @@ unfolding readCall readAs
 returns c =
     let told = c .before in
     let called = told .before .before .before .before in
-    (rw (← called .read .ensures .0, told .outcome .given .1), reads (called .read .ensures .1) _ _ _ _ (rw (← called .read .ensures .0, told .outcome .given .1)))
+    (rw (← called .read .ensures .0, told .outcome .given .1), reads (called .read .ensures .1 .1) _ _ (called .read .ensures .1 .0) _ _ (rw (← called .read .ensures .0, told .outcome .given .1)))
 
 same-length-2 : tie.Need-same-length-2
 same-length-2 c = c .before .before .before .before .before .before .before .read .kept .1 .0
@@ -38,7 +38,7 @@ unfolding readCall readAs
 returns-2 c =
     let told = c .before .before .before in
     let called = told .before .before .before .before in
-    (rw (← called .read .ensures .0, told .outcome2 .given .1, c .code .ensures, c .before .refusal .ensures), reads (called .read .ensures .1) _ _ _ _ (rw (← called .read .ensures .0, told .outcome2 .given .1, c .code .ensures, c .before .refusal .ensures)))
+    (rw (← called .read .ensures .0, told .outcome2 .given .1, c .code .ensures, c .before .refusal .ensures), reads (called .read .ensures .1 .1) _ _ (called .read .ensures .1 .0) _ _ (rw (← called .read .ensures .0, told .outcome2 .given .1, c .code .ensures, c .before .refusal .ensures)))
 
 pub ludo-read-spec : {M : Type 1} → statement M
 ludo-read-spec =

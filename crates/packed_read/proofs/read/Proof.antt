@@ -8,7 +8,7 @@ use Rattle.packed_read.proofs.read.Statement.{statement}
 use Rattle.packed_read.proofs.read.Tie as tie
 
 returns : tie.Need-returns
-returns c = (read-long _ _ (c .if1 .taken), read-means)
+returns c = (read-long _ _ (c .if1 .taken), (λ k. omega (arith, c .before .before .shared-slice-known .given k), read-means))
 
 slice-relend-prefix-read-file : tie.Need-slice-relend-prefix-read-file
 slice-relend-prefix-read-file c = search needs
@@ -31,7 +31,7 @@ returns-2 c =
     let r = e .before .before .before .before in
     let i = r .before .before in
     let start = i .before .before .before in
-    (read-short (now (start .args .text)) (now (start .args .net)) (i .if1 .left) _ _ (r .read-file .ensures) _ (e .end .given .1) (omega arith), read-means)
+    (read-short (now (start .args .text)) (now (start .args .net)) (i .if1 .left) _ _ (r .read-file .ensures) _ (e .end .given .1) (omega arith), (λ k. omega (arith, i .before .before .shared-slice-known .given k), read-means))
 
 read-file-requires-2 : tie.Need-read-file-requires-2
 read-file-requires-2 c κs = search needs
@@ -53,7 +53,7 @@ returns-3 c =
     let r = e .before .before .before .before in
     let i = r .before .before in
     let start = i .before .before .before in
-    (read-done (now (start .args .text)) (now (start .args .net)) (i .if1 .left) _ _ (r .read-file .ensures) _ _ _ (e .end .given .1) (omega arith) (r2 .read-file2 .ensures), read-means)
+    (read-done (now (start .args .text)) (now (start .args .net)) (i .if1 .left) _ _ (r .read-file .ensures) _ _ _ (e .end .given .1) (omega arith) (r2 .read-file2 .ensures), (λ k. omega (arith, i .before .before .shared-slice-known .given k), read-means))
 
 same-length-3 : tie.Need-same-length-3
 same-length-3 c = search needs
@@ -64,7 +64,7 @@ returns-4 c =
     let r = f .before .before .before .before in
     let i = r .before .before in
     let start = i .before .before .before in
-    (read-failed (now (start .args .text)) (now (start .args .net)) (i .if1 .left) _ _ (r .read-file .ensures) _ _ _ (f .fault .given .1) (c .cause-of .ensures), read-means)
+    (read-failed (now (start .args .text)) (now (start .args .net)) (i .if1 .left) _ _ (r .read-file .ensures) _ _ _ (f .fault .given .1) (c .cause-of .ensures), (λ k. omega (arith, i .before .before .shared-slice-known .given k), read-means))
 
 pub read-spec : {M : Type 1} → statement M
 read-spec =

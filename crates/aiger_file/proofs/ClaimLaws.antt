@@ -109,6 +109,11 @@ numbers-of (told.Refused cause) net n after h =
     let z : _≡_ {A = ℕ} 0 1 = cc in
     absurd (omega arith)
 
+same-told : (s buf : List ℕ) (cause : TextCause) (after : List ℕ) → ((more : List ℕ) → s ≡ bytes "aig " ++ more → ⊥) → textReadOf s buf ≡ textEnd (told.Refused cause) after
+    → (same : Cause) × (readOf s buf ≡ readEnd (Refused same) after) × (refusalOf same ≡ textRefusalOf cause)
+unfolding endOf outcomeOf
+same-told s buf cause after other e = (causeOf cause, else s buf other ∙ rw e, numbered cause)
+
 -- ---- exactly the files, in both forms
 
 of-packed : {s net : List ℕ} → IsPacked s net → IsFile s net
@@ -134,6 +139,12 @@ apart : (net other : List ℕ) (explicit written : ℕ → Bool) → fileIn asci
 unfolding fileIn
 apart net other explicit written e =
     true≢false (sym (packed-word other written) ∙ sym (ap (hasTag (byte "i")) e) ∙ text-word net explicit)
+
+-- no reset 0 is written
+plain : (form : Form) (net : List ℕ) → writtenIn form net ≡ fileIn form net (λ _. false)
+unfolding writtenIn fileIn fileOf packedOf
+plain ascii net = refl
+plain packed net = refl
 
 -- surplus numbers say nothing
 trimmed : (form : Form) (net : List ℕ) → fileIn form (take (sizeOf net) net) (λ _. false) ≡ fileIn form net (λ _. false)
@@ -227,14 +238,13 @@ module _ (p : PackedMeans) (t : TextMeans) where
   back ascii net buf h l = by-text _ buf (text-word net (λ _. false)) ∙ taken-as _ buf _ _ (t .back net buf h l)
 
   trip : (form : Form) (net : List ℕ) → isNetlist net ≡ true → IsFile (writtenIn form net) (take (sizeOf net) net)
-  unfolding writtenIn
   trip form net h =
       record {
         netlist = trimmed-netlist net h;
         exact = trimmed-length net h ∙ sym (trimmed-size net);
         form = form;
         explicit = λ _. false;
-        is = sym (trimmed form net);
+        is = plain form net ∙ sym (trimmed form net);
       }
 
   either : (form shape : Form) (net buf : List ℕ) → isNetlist net ≡ true → readOf (writtenIn form net) buf ≡ readOf (writtenIn shape net) buf
@@ -257,15 +267,16 @@ pub read-means : ReadMeans
 read-means =
     record {
       word = word;
-      else = else;
+      taken = λ s buf n after other e. else s buf other ∙ taken-as s buf n after e;
+      told = same-told;
       neither = neither;
-      numbered = numbered;
       takes = takes packed-means text-means;
       short = short packed-means text-means;
       only = only packed-means text-means;
       long = long packed-means text-means;
       other = other packed-means text-means;
       kept = kept;
+      plain = plain;
       back = back packed-means text-means;
       either = either packed-means text-means;
       same = same packed-means text-means;

@@ -1,3 +1,4 @@
 -- The laws that belong to no one function.
 pub mod KeptLaws
 pub mod ClaimLaws
+pub mod Examples

@@ -9,17 +9,18 @@ use lib.ListN.{length, getD, take, drop}
 use Rattle.text.specs.Quoted.{bytes}
 use Rattle.netlist.specs.Layout.{sizeOf}
 use Rattle.netlist.specs.Valid.{isNetlist}
-use Rattle.aiger.specs.Format.{fileWith}
-use Rattle.packed.specs.Format.{packedWith}
+use Rattle.aiger.specs.Format.{fileWith, fileOf}
+use Rattle.packed.specs.Format.{packedWith, packedOf}
 use Rattle.aiger_lines.specs.declared.Fault.{Fault}
 use Rattle.aiger_lines.specs.declared.Fault.the-variants.{WrongShape}
 use Rattle.aiger_read.specs.declared.Cause.{Cause as TextCause}
-use Rattle.aiger_read.specs.Read.{refusalOf as textRefusalOf, readOf as textReadOf}
+use Rattle.aiger_read.specs.declared.ReadOutcome.the-variants.{Numbers as TextNumbers, Refused as TextRefused}
+use Rattle.aiger_read.specs.Read.{refusalOf as textRefusalOf, readEnd as textEnd, readOf as textReadOf}
 use Rattle.packed_read.specs.declared.Cause.{Cause}
 use Rattle.packed_read.specs.declared.Cause.the-variants.{TextTooLong, ShortBuffer, FaultyLine, FaultyRun}
 use Rattle.packed_read.specs.declared.ReadOutcome.the-variants.{Numbers, Refused}
 use Rattle.packed_read.specs.Read.{refusalOf, readEnd, readOf as packedReadOf}
-use Rattle.aiger_file.specs.Read.{causeOf, endOf, readOf}
+use Rattle.aiger_file.specs.Read.{readOf}
 
 -- the two forms
 pub data Form : Type 0 where
@@ -31,9 +32,10 @@ unfoldable pub fileIn : Form → List ℕ → (ℕ → Bool) → List ℕ
 fileIn ascii net explicit = fileWith net explicit
 fileIn packed net explicit = packedWith net explicit
 
--- the file that is written: no reset 0 is
+-- the file that is written in it
 unfoldable pub writtenIn : Form → List ℕ → List ℕ
-writtenIn form net = fileIn form net (λ _. false)
+writtenIn ascii net = fileOf net
+writtenIn packed net = packedOf net
 
 -- a text is a file of the netlist net in one of the forms, with some of its resets 0 explicit
 pub record IsFile (text net : List ℕ) : Type 0 where
@@ -49,14 +51,18 @@ Refuses text buf cause = readOf text buf ≡ readEnd (Refused cause) buf
 
 -- THE CLAIM, of any text and any buffer lent
 pub record ReadMeans : Type 0 where
-  -- the first word `aig` tells the packed form, whose reader answers; all else is answered by the reader of the text form,
-  -- with the same numbers, refusals and buffer
+  -- the first word `aig` tells the packed form, whose reader answers
   pub word : (more buf : List ℕ) → readOf (bytes "aig " ++ more) buf ≡ packedReadOf (bytes "aig " ++ more) buf
-  pub else : (text buf : List ℕ) → ((more : List ℕ) → text ≡ bytes "aig " ++ more → ⊥) → readOf text buf ≡ endOf (textReadOf text buf)
+  -- whatever else is read as the reader of the text form reads it: what that takes gives the same numbers, and what that
+  -- refuses is refused with the same number and line; both leave the buffer that it leaves
+  pub taken : (text buf : List ℕ) (n : ℕ) (after : List ℕ) → ((more : List ℕ) → text ≡ bytes "aig " ++ more → ⊥)
+      → textReadOf text buf ≡ textEnd (TextNumbers n) after → readOf text buf ≡ readEnd (Numbers n) after
+  pub told : (text buf : List ℕ) (cause : TextCause) (after : List ℕ) → ((more : List ℕ) → text ≡ bytes "aig " ++ more → ⊥)
+      → textReadOf text buf ≡ textEnd (TextRefused cause) after
+      → (same : Cause) × (readOf text buf ≡ readEnd (Refused same) after) × (refusalOf same ≡ textRefusalOf cause)
   -- a text that begins with neither word has a header of the wrong shape
   pub neither : (text buf : List ℕ) → ((more : List ℕ) → text ≡ bytes "aig " ++ more → ⊥) → ((more : List ℕ) → text ≡ bytes "aag " ++ more → ⊥)
       → length text ≤ 65536 → Refuses text buf (FaultyLine WrongShape 1)
-  pub numbered : (cause : TextCause) → refusalOf (causeOf cause) ≡ textRefusalOf cause
   -- a file in either form is taken where the buffer has room for its netlist: the numbers stand first, the surplus stays
   pub takes : (text net buf : List ℕ) → IsFile text net → length net ≤ length buf
       → readOf text buf ≡ readEnd (Numbers (length net)) (net ++ drop (length net) buf)
@@ -72,6 +78,8 @@ pub record ReadMeans : Type 0 where
       → ((fault : Fault) × (line : ℕ) × Refuses text buf (FaultyLine fault line)) ⊎ ((fault : Fault) × Refuses text buf (FaultyRun fault))
   -- and whatever is refused leaves the buffer as it was
   pub kept : (text buf : List ℕ) (cause : Cause) → readOf text buf .answer ≡ Refused cause → Refuses text buf cause
+  -- no reset 0 is written
+  pub plain : (form : Form) (net : List ℕ) → writtenIn form net ≡ fileIn form net (λ _. false)
   -- what was written of a netlist in either form, whatever its surplus, reads as the same numbers
   pub back : (form : Form) (net buf : List ℕ) → isNetlist net ≡ true → sizeOf net ≤ length buf
       → readOf (writtenIn form net) buf ≡ readEnd (Numbers (sizeOf net)) (take (sizeOf net) net ++ drop (sizeOf net) buf)

@@ -19,8 +19,8 @@ use Rattle.netlist.proofs.LiteralLaws.{literal-plain}
 use Rattle.netlist.proofs.ValidLaws.{valid}
 use Rattle.aiger.specs.Rows.{line, literalRow}
 use Rattle.aiger.specs.Format.{outputLine}
-use Rattle.aiger.specs.Write.{writeAs}
-use Rattle.aiger.proofs.WriteLaws.{written, written-only}
+use Rattle.aiger.specs.Write.{refusalOf, writeAs}
+use Rattle.aiger.proofs.WriteLaws.{no-netlist, too-short, written, written-only}
 use Rattle.aiger.proofs.FormatLaws.{fronts-same, fronts-netlist}
 use Rattle.packed.specs.Runs.{run}
 use Rattle.packed.specs.Format.{packedHeader, packedLatchRow, gateRuns, packedLatch, packedGate, packedWith, packedOf}
@@ -75,6 +75,7 @@ gate net k h l =
     (g - r0, r0 - r1, refl, omega arith, omega arith)
 
 pub write-means : WriteMeans
+unfolding refusalOf
 write-means =
     record {
       value = run-value;
@@ -88,6 +89,9 @@ write-means =
       gate = gate;
       writes = λ net text. written (packedOf net) net text;
       only = λ net text n after. written-only (packedOf net) net text n after;
+      refuses = λ net text. no-netlist (packedOf net) net text;
+      no-room = λ net text. too-short (packedOf net) net text;
+      numbered = (refl, refl);
       short = λ net explicit h. packed-length net h explicit;
       longest = longest;
       own = own;

@@ -10,8 +10,9 @@ use Rattle.text.specs.Writer.{joined}
 use Rattle.netlist.specs.Layout.{sizeOf}
 use Rattle.netlist.specs.Valid.{isNetlist}
 use Rattle.aiger.specs.Rows.{line}
-use Rattle.aiger.specs.Write.{writeEnd, writeAs}
-use Rattle.aiger.specs.declared.Written.the-variants.{Bytes}
+use Rattle.aiger.specs.Write.{refusalOf, writeEnd, writeAs}
+use Rattle.aiger.specs.declared.Cause.the-variants.{ShortBuffer, NotNetlist}
+use Rattle.aiger.specs.declared.Written.the-variants.{Bytes, Refused}
 use Rattle.packed.specs.Runs.{run}
 use Rattle.packed.specs.Format.{packedLatch, packedGate, packedWith, packedOf}
 
@@ -54,6 +55,11 @@ pub record WriteMeans : Type 0 where
   -- and nowhere else
   pub only : (net text : List ℕ) (n : ℕ) (after : List ℕ) → writeAs (packedOf net) net text ≡ writeEnd (Bytes n) after
       → (isNetlist net ≡ true) × (length (packedOf net) ≤ length text)
+  -- numbers that are no netlist are 16, then a buffer without room is 12; both leave the buffer as it was
+  pub refuses : (net text : List ℕ) → isNetlist net ≡ false → writeAs (packedOf net) net text ≡ writeEnd (Refused NotNetlist) text
+  pub no-room : (net text : List ℕ) → isNetlist net ≡ true → length text < length (packedOf net)
+      → writeAs (packedOf net) net text ≡ writeEnd (Refused ShortBuffer) text
+  pub numbered : (refusalOf NotNetlist ≡ record { number = 16; line = 0 }) × (refusalOf ShortBuffer ≡ record { number = 12; line = 0 })
   -- a buffer of 28,706 bytes has room for every file, whichever resets 0 are explicit
   pub short : (net : List ℕ) (explicit : ℕ → Bool) → isNetlist net ≡ true → length (packedWith net explicit) ≤ 28706
   -- and some file has as many

@@ -24,7 +24,7 @@ fn least(a: usize, b: usize) -> usize
 }
 
 // The first n bytes of a buffer, or all where it has fewer.
-fn first_bytes(s: &[u8], n: usize) -> &[u8] {
+pub(crate) fn first_bytes(s: &[u8], n: usize) -> &[u8] {
     let end = least(n, s.len());
     &s[0..end]
 }
@@ -117,45 +117,55 @@ fn reads_as(file: &[u8], net: &[u16]) -> bool {
     }
 }
 
-// Whether the text form of a netlist reads as it.
-fn text_reads_as(net: &[u16]) -> bool {
-    let mut file = [UNWRITTEN; FILE];
-    let written = aiger::write(net, &mut file);
+// Whether the text form of a netlist, written into a buffer, reads as it.
+fn text_reads_as(net: &[u16], file: &mut [u8]) -> bool {
+    let written = aiger::write(net, file);
     match written {
-        Written::Bytes(end) => reads_as(first_bytes(&file, end), net),
+        Written::Bytes(end) => reads_as(first_bytes(file, end), net),
         Written::Refused(_) => false,
     }
 }
 
-// Writes whether both forms of a netlist, of which the packed one is lent, read as it.
-fn write_both(net: &[u16], file: &[u8]) {
-    if !reads_as(file, net) {
+// Writes whether the packed file of a netlist and its text form read as it.
+fn write_same(packed: bool, text: bool) {
+    if !packed {
         write(b"\tPACKED DIFFERS");
-        return;
-    }
-    if text_reads_as(net) {
-        write(b"\tsame");
-    } else {
+    } else if !text {
         write(b"\tTEXT DIFFERS");
+    } else {
+        write(b"\tsame");
     }
 }
 
-// Writes what is made of a netlist without surplus, whose packed file a buffer has.
+// Reads both forms of a netlist. A buffer has the packed one, of `end` bytes, and is then used for the other.
+fn write_both(net: &[u16], file: &mut [u8], end: usize) {
+    let packed = reads_as(first_bytes(file, end), net);
+    let text = text_reads_as(net, file);
+    write_same(packed, text);
+}
+
+// Writes what is made of a netlist without surplus, whose packed file of `end` bytes a buffer has.
 fn write_written(net: &[u16], file: &mut [u8], end: usize) {
     write_file(file, end);
     write_short(net, file, end);
     write_cut(net, file);
-    write_both(net, first_bytes(file, end));
+    write_both(net, file, end);
+}
+
+// Writes what is made of a netlist without surplus, in a buffer that has no file yet. It takes an array, whose type tells
+// the length, so that no proof counts 65,537 elements.
+fn write_packed(net: &[u16], file: &mut [u8; FILE]) {
+    let written = packed::write(net, file);
+    match written {
+        Written::Bytes(end) => write_written(net, file, end),
+        Written::Refused(cause) => write_refusal(cause.refusal()),
+    }
 }
 
 // Writes what is made of a netlist without surplus.
 fn write_forms(net: &[u16]) {
     let mut file = [UNWRITTEN; FILE];
-    let written = packed::write(net, &mut file);
-    match written {
-        Written::Bytes(end) => write_written(net, &mut file, end),
-        Written::Refused(cause) => write_refusal(cause.refusal()),
-    }
+    write_packed(net, &mut file);
 }
 
 // Writes the netlist that was read into a buffer, of n numbers.

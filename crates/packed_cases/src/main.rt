@@ -7,6 +7,7 @@
 // is one byte short, and of a netlist without its last number; and whether its packed file and its text form read as the
 // same netlist. All parted by tabs. cases.py writes the cases and, by a model of its own, what documents 01 and 02 say of
 // each.
+use answers::first_bytes;
 use output::write;
 use text::Line;
 use text::Number;
@@ -15,6 +16,9 @@ mod answers;
 mod output;
 
 const STDIN: i32 = 0;
+
+// Room for all cases.
+const ROOM: usize = 262144;
 
 // More numbers than a netlist has; the most that a case lends.
 const NUMBERS: usize = 8200;
@@ -80,8 +84,13 @@ fn cases(input: &[u8]) {
     }
 }
 
+// The cases of standard input, which a buffer has room for. It takes an array for the same reason as write_packed.
+fn read_cases(input: &mut [u8; ROOM]) {
+    let n = io::read_full(STDIN, input);
+    cases(first_bytes(input, n));
+}
+
 fn main() {
-    let mut input = [0u8; 262144];
-    let n = io::read_full(STDIN, &mut input);
-    cases(&input[..n]);
+    let mut input = [0u8; ROOM];
+    read_cases(&mut input);
 }

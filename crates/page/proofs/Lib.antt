@@ -5,5 +5,6 @@ mod SumLaws
 mod SizeLaws
 pub mod LengthLaws
 pub mod AnswerLaws
+mod FileLaws
 pub mod ProgramLaws
 mod Examples

@@ -5,7 +5,7 @@ use mathlib.Core.Path.{_≡_}
 use mathlib.Core.Logic.{_⊎_}
 use mathlib.Core.Bool.{false, cond}
 use mathlib.Core.List.{List, [], _++_}
-use Prim.Native.Nat.{ℕ, _≤_}
+use Prim.Native.Nat.{ℕ, _<_, _≤_}
 use lib.Dec.{eqb, leb}
 use lib.ListN.{length, drop}
 use Rattle.text.specs.declared.Refusal.{Refusal}
@@ -13,8 +13,10 @@ use Rattle.text.specs.Quoted.{bytes}
 use Rattle.text.specs.Writer.{joined}
 use Rattle.assertion.specs.Graph.{Bytes, Graph}
 use Rattle.assertion.specs.Paths.{verdicts, countRejected}
+use Rattle.graph.specs.Reading as graph
 use Rattle.graph.specs.Reading.{Outcome, refused, accepted, graphOf}
-use Rattle.circuit.specs.Numbers.{numbersOf}
+use Rattle.graph.specs.declared.Cause.{Cause as GraphCause}
+use Rattle.circuit.specs.Numbers.{numbersWith, numbersOf}
 use Rattle.builder.specs.Build as build
 use Rattle.builder.specs.Build.{variablesOf}
 use Rattle.builder.specs.declared.Cause.the-variants.{GraphText, TooManyVariables}
@@ -86,6 +88,14 @@ aigerText input = graphPage (graphOf input) (λ g. fileOf (numbersOf g))
 
 unfoldable pub packedText : Bytes → Bytes
 packedText input = graphPage (graphOf input) (λ g. packedOf (numbersOf g))
+
+-- THE CLAIM on both pages, by the file that a netlist has in their form: of a graph with at most 4,095 variables it is the
+-- file of its monitor's netlist without checked; of one with more the line of 11; of any other input the line of what its
+-- graph text is refused with
+pub record FilePage (file : List ℕ → Bytes) (input page : Bytes) : Type 0 where
+  pub printed : (g : Graph) → graphOf input ≡ accepted g → variablesOf false g ≤ 4095 → page ≡ file (numbersWith false g)
+  pub large : (g : Graph) → graphOf input ≡ accepted g → 4095 < variablesOf false g → page ≡ refusedLine (record { number = 11; line = 0 })
+  pub refusal : (cause : GraphCause) → graphOf input ≡ refused cause → page ≡ refusedLine (graph.refusalOf cause)
 
 -- ---- a page in a lent buffer, which keeps its surplus; refused with 12 where it is too short
 pub record PageEnd : Type 0 where

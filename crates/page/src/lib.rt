@@ -21,7 +21,9 @@ ghost use Rattle.assertion.specs.Paths.{PathsMean};
 ghost use Rattle.graph.specs.Reading.{graphOf};
 ghost use Rattle.aiger.specs.Write.{writeEnd, writeAs};
 ghost use Rattle.page_text.specs.Lines.{refusedLine, report};
-ghost use Rattle.page.specs.Pages.{refusalOf, inputRefusal, JudgementMeans, graphPage, tracePage, pageEnd, pageOf, monitorText, aigerText, packedText};
+ghost use Rattle.page.specs.Pages.{refusalOf, inputRefusal, JudgementMeans, graphPage, tracePage, pageEnd, pageOf, monitorText, aigerText, packedText, FilePage};
+ghost use Rattle.aiger.specs.Format.{fileOf};
+ghost use Rattle.packed.specs.Format.{packedOf};
 ghost use Rattle.page.specs.Private.Files.{fileIn, fileText};
 
 // The longest input of a program.
@@ -177,6 +179,7 @@ fn graph_file(input: &[u8], packed: bool, out: &mut [u8]) -> Paged
 pub fn aiger_page(input: &[u8], out: &mut [u8]) -> Paged
     ensures { λ r. ⌜ pageEnd r (now (out .exit)) ≡ pageOf (aigerText (now (input .entry))) (now (out .entry)) ⌝ }
     ensures fits { λ _. ⌜ length (aigerText (now (input .entry))) ≤ 65536 ⌝ }
+    ensures prints { λ _. ⌜ FilePage fileOf (now (input .entry)) (aigerText (now (input .entry))) ⌝ }
 {
     graph_file(input, false, out)
 }
@@ -185,6 +188,7 @@ pub fn aiger_page(input: &[u8], out: &mut [u8]) -> Paged
 pub fn packed_page(input: &[u8], out: &mut [u8]) -> Paged
     ensures { λ r. ⌜ pageEnd r (now (out .exit)) ≡ pageOf (packedText (now (input .entry))) (now (out .entry)) ⌝ }
     ensures fits { λ _. ⌜ length (packedText (now (input .entry))) ≤ 65536 ⌝ }
+    ensures prints { λ _. ⌜ FilePage packedOf (now (input .entry)) (packedText (now (input .entry))) ⌝ }
 {
     graph_file(input, true, out)
 }

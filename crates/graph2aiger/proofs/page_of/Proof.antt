@@ -29,7 +29,7 @@ returns : tie.Need-returns
 returns c =
     let m = c .before .before .before .before .before in
     let a = m .before .before .before .before .before .args in
-    printed aigerText 32769 65536 aiger-cut (now (a .input)) (a .n) (now (a .out)) (m .aiger-page .ensures .0) (m .aiger-page .ensures .1) (omega arith) (omega arith) (c .before .paged .given .1)
+    printed aigerText 32769 65536 aiger-cut (now (a .input)) (a .n) (now (a .out)) (m .aiger-page .ensures .0) (m .aiger-page .ensures .1 .0) (omega arith) (omega arith) (c .before .paged .given .1)
 
 same-length-2 : tie.Need-same-length-2
 same-length-2 c = search needs
@@ -38,7 +38,7 @@ returns-2 : tie.Need-returns-2
 returns-2 c =
     let m = c .before .before .before .before in
     let a = m .before .before .before .before .before .args in
-    never aigerText 32769 65536 aiger-cut (now (a .input)) (a .n) (now (a .out)) (m .aiger-page .ensures .0) (m .aiger-page .ensures .1) (omega arith) (omega arith) (c .enum-told .given .1)
+    never aigerText 32769 65536 aiger-cut (now (a .input)) (a .n) (now (a .out)) (m .aiger-page .ensures .0) (m .aiger-page .ensures .1 .0) (omega arith) (omega arith) (c .enum-told .given .1)
 
 pub page-of-spec : {M : Type 1} → statement M
 page-of-spec =

@@ -141,6 +141,10 @@ apart net other explicit written e =
     true≢false (sym (packed-word other written) ∙ sym (ap (hasTag (byte "i")) e) ∙ text-word net explicit)
 
 -- no reset 0 is written
+no-zero : (net : List ℕ) → fileOf net ≡ fileWith net (λ _. false)
+unfolding fileOf
+no-zero net = refl
+
 plain : (form : Form) (net : List ℕ) → writtenIn form net ≡ fileIn form net (λ _. false)
 unfolding writtenIn fileIn fileOf packedOf
 plain ascii net = refl
@@ -264,6 +268,7 @@ module _ (p : PackedMeans) (t : TextMeans) where
   same ascii packed net other h g e = absurd (apart net other (λ _. false) (λ _. false) e)
 
 pub read-means : ReadMeans
+unfolding writtenIn packedOf
 read-means =
     record {
       word = word;
@@ -276,7 +281,8 @@ read-means =
       long = long packed-means text-means;
       other = other packed-means text-means;
       kept = kept;
-      plain = plain;
+      plain = λ net. (no-zero net, refl);
+      written = λ net. (refl, refl);
       back = back packed-means text-means;
       either = either packed-means text-means;
       same = same packed-means text-means;

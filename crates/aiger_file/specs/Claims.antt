@@ -79,7 +79,8 @@ pub record ReadMeans : Type 0 where
   -- and whatever is refused leaves the buffer as it was
   pub kept : (text buf : List ℕ) (cause : Cause) → readOf text buf .answer ≡ Refused cause → Refuses text buf cause
   -- no reset 0 is written
-  pub plain : (form : Form) (net : List ℕ) → writtenIn form net ≡ fileIn form net (λ _. false)
+  pub plain : (net : List ℕ) → (fileOf net ≡ fileWith net (λ _. false)) × (packedOf net ≡ packedWith net (λ _. false))
+  pub written : (net : List ℕ) → (writtenIn ascii net ≡ fileOf net) × (writtenIn packed net ≡ packedOf net)
   -- what was written of a netlist in either form, whatever its surplus, reads as the same numbers
   pub back : (form : Form) (net buf : List ℕ) → isNetlist net ≡ true → sizeOf net ≤ length buf
       → readOf (writtenIn form net) buf ≡ readEnd (Numbers (sizeOf net)) (take (sizeOf net) net ++ drop (sizeOf net) buf)

@@ -7,7 +7,7 @@ use Prim.Native.Nat.{ℕ, _+_, _*_, _^_, _≤_, _<_}
 use lib.ListN.{length, drop}
 use Rattle.netlist.specs.Valid.{isNetlist}
 use Rattle.packed_read.specs.declared.Cause.{Cause}
-use Rattle.packed_read.specs.declared.ReadOutcome.the-variants.{Numbers, Refused}
+use Rattle.packed_read.specs.declared.ReadOutcome.the-variants.{Refused}
 use Rattle.packed_read.specs.Read.{refusalOf}
 use Rattle.aiger_file.specs.Read.{readOf}
 use Rattle.aiger_file.specs.Claims.{IsFile}

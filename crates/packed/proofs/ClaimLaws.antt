@@ -49,6 +49,10 @@ parts : (net : List ℕ) (explicit : ℕ → Bool)
 unfolding packedWith packedHeader outputLine literalRow
 parts net explicit = refl
 
+plain : (net : List ℕ) → packedOf net ≡ packedWith net (λ _. false)
+unfolding packedOf
+plain net = refl
+
 bare : (net : List ℕ) (explicit : ℕ → Bool) (k : ℕ) → getD net (5 + 2 * k + 1) 0 ≡ 0 → explicit k ≡ false → packedLatch net explicit k ≡ line (getD net (5 + 2 * k) 0) []
 unfolding packedLatch
 bare net explicit k h e = rw e (latch-plain (getD net (5 + 2 * k) 0) (getD net (5 + 2 * k + 1) 0) h)
@@ -84,6 +88,7 @@ write-means =
       more = run-before;
       fewest = run-fewest;
       parts = parts;
+      plain = plain;
       bare = bare;
       reset = reset;
       gate = gate;

@@ -39,6 +39,8 @@ pub record WriteMeans : Type 0 where
       ++ (line (getD net 0 0) (getD net 1 0 ∷ getD net 2 0 ∷ getD net 3 0 ∷ getD net 4 0 ∷ [])
       ++ (joined (packedLatch net explicit) (getD net 2 0)
       ++ (joined (λ k. line (getD net (5 + 2 * getD net 2 0 + k) 0) []) (getD net 3 0) ++ joined (packedGate net) (getD net 4 0))))
+  -- in the file that is written no reset 0 is
+  pub plain : (net : List ℕ) → packedOf net ≡ packedWith net (λ _. false)
   -- a latch is its next literal; and its reset, as it is, where that is not 0 or is explicit
   pub bare : (net : List ℕ) (explicit : ℕ → Bool) (k : ℕ) → getD net (5 + 2 * k + 1) 0 ≡ 0 → explicit k ≡ false
       → packedLatch net explicit k ≡ line (getD net (5 + 2 * k) 0) []

@@ -1,23 +1,26 @@
 -- THE CLAIM: read takes exactly the packed files, reading what was written gives the same numbers, and each fault is
 -- told with its number and line. Assumes nothing.
 use mathlib.Core.Path.{_≡_, refl, sym, ap, _∙_}
-use mathlib.Core.Bool.{Bool, true, false, cond, not}
-use mathlib.Core.List.{List, _++_}
+use mathlib.Core.Bool.{Bool, true, false, cond, not, _&&_}
+use mathlib.Core.List.{List, [], _∷_, _++_, append-assoc, append-nil}
 use mathlib.Core.Logic.{_⊎_, inl, inr}
-use Prim.Native.Nat.{ℕ, zero, suc, _+_, _-_, _<_, _≤_}
+use Prim.Native.Nat.{ℕ, zero, suc, _+_, _-_, _*_, _<_, _≤_}
 use native.Mathlib.Omega.{arith}
-use borrow.Author.Tests.{le-leb, lt-leb}
-use lib.Dec.{leb}
+use borrow.Author.Tests.{le-leb, lt-leb, eq-eqb}
+use lib.Dec.{eqb, leb}
 use lib.ListN.{length, getD, take, drop}
 use lib.Seq.{getD-drop}
-use Rattle.netlist.specs.Layout.{maximum, latchCount, outputCount, gateCount, sizeOf, latchVariable, gateVariable}
+use Rattle.text.specs.Quoted.{bytes}
+use Rattle.text.specs.Writer.{joined}
+use Rattle.netlist.specs.Layout.{maximum, inputCount, latchCount, outputCount, gateCount, sizeOf, latchVariable, gateVariable}
 use Rattle.netlist.specs.Literals.{literalOf}
 use Rattle.netlist.specs.Valid.{headerOk, freeCount, isNetlist}
 use Rattle.netlist.proofs.ValidLaws.{valid}
-use Rattle.aiger.specs.Rows.{literalRow}
+use Rattle.aiger.specs.Rows.{line, literalRow}
+use Rattle.aiger.specs.Format.{outputLine}
 use Rattle.aiger.proofs.FormatLaws.{trimmed-size, trimmed-length, trimmed-netlist}
 use Rattle.packed.specs.Runs.{run}
-use Rattle.packed.specs.Format.{packedHeader, packedLatchRow, packedWith, packedOf}
+use Rattle.packed.specs.Format.{packedHeader, packedLatchRow, packedLatch, packedGate, packedWith, packedOf}
 use Rattle.packed.proofs.FormatLaws.{trimmed-packed}
 use Rattle.packed.proofs.LengthLaws.{packed-length}
 use Rattle.aiger_lines.specs.declared.Fault.{Fault}
@@ -37,7 +40,7 @@ use Rattle.packed_read.specs.declared.ReadOutcome.the-variants.{Numbers,
 use Rattle.packed_read.specs.Lines.{secondAt}
 use Rattle.packed_read.specs.Files.{packedRead}
 use Rattle.packed_read.specs.Read.{refusalOf, ReadEnd, readEnd, maxText, readAs, readOf}
-use Rattle.packed_read.specs.Claims.{IsPacked, toLatch, toOutput, toGate, StartsWithHeader, StartsWithOne, StartsWithTwo, StartsWithRun, Refuses, PackedMeans}
+use Rattle.packed_read.specs.Claims.{IsPacked, toLatch, toOutput, toGate, Refuses, PackedMeans}
 use Rattle.packed_read.specs.Private.Steps.{causeOf}
 use Rattle.packed_read.proofs.RunLaws.{EachByte, BytesFrom, run-complete, run-none}
 use Rattle.packed_read.proofs.GateLaws.{second-none, second-above, gate-none, gate-zero, gate-above, gate-good}
@@ -45,6 +48,37 @@ use Rattle.packed_read.proofs.ReadLaws.{faulty-as, line-cause}
 use Rattle.packed_read.proofs.TextLaws.{latch-above, latch-wrong}
 use Rattle.packed_read.proofs.SoundLaws.{sound}
 use Rattle.packed_read.proofs.CompleteLaws.{latch-fault, output-fault, gate-fault, file-extra, complete}
+
+-- a text starts with a header, with the line of one number or of two, with a byte run: numbers have at most five
+-- digits, a byte run at most three bytes
+record StartsWithHeader (text : List ℕ) : Type 0 where
+  m : ℕ
+  i : ℕ
+  l : ℕ
+  o : ℕ
+  a : ℕ
+  more : List ℕ
+  small : (m < 100000) × (i < 100000) × (l < 100000) × (o < 100000) × (a < 100000)
+  is : text ≡ packedHeader m i l o a ++ more
+
+record StartsWithOne (text : List ℕ) : Type 0 where
+  n : ℕ
+  more : List ℕ
+  small : n < 100000
+  is : text ≡ line n [] ++ more
+
+record StartsWithTwo (text : List ℕ) : Type 0 where
+  n : ℕ
+  m : ℕ
+  more : List ℕ
+  small : (n < 100000) × (m < 100000)
+  is : text ≡ line n (m ∷ []) ++ more
+
+record StartsWithRun (text : List ℕ) : Type 0 where
+  n : ℕ
+  more : List ℕ
+  small : n < 2097152
+  is : text ≡ run n ++ more
 
 -- ---- a packed file is read as its netlist, and no limit is in its way
 
@@ -258,6 +292,48 @@ extra net buf explicit more h some small =
     let s = packedWith net explicit ++ more in
     faulty-run s buf small WrongShape (file-extra s net explicit h more refl some)
 
+-- ---- a file up to a latch, an output, a gate
+
+module _ (net : List ℕ) (explicit : ℕ → Bool) where
+  to-latch : (toLatch net explicit 0 ≡ bytes "aig " ++ line (getD net 0 0) (getD net 1 0 ∷ getD net 2 0 ∷ getD net 3 0 ∷ getD net 4 0 ∷ []))
+      × ((k : ℕ) → toLatch net explicit (suc k) ≡ toLatch net explicit k ++ packedLatch net explicit k)
+  unfolding toLatch packedHeader
+  to-latch =
+      let head = packedHeader (maximum net) (inputCount net) (latchCount net) (outputCount net) (gateCount net) in
+      (append-nil head, λ k. sym (append-assoc head (joined (packedLatch net explicit) k) (packedLatch net explicit k)))
+
+  to-output : (toOutput net explicit 0 ≡ toLatch net explicit (getD net 2 0))
+      × ((k : ℕ) → toOutput net explicit (suc k) ≡ toOutput net explicit k ++ line (getD net (5 + 2 * getD net 2 0 + k) 0) [])
+  unfolding toOutput outputLine literalRow
+  to-output = (append-nil (toLatch net explicit (latchCount net)), λ k. sym (append-assoc (toLatch net explicit (latchCount net)) (joined (outputLine net) k) (outputLine net k)))
+
+  to-gate : (toGate net explicit 0 ≡ toOutput net explicit (getD net 3 0))
+      × ((k : ℕ) → toGate net explicit (suc k) ≡ toGate net explicit k ++ packedGate net k) × (packedWith net explicit ≡ toGate net explicit (getD net 4 0))
+  unfolding toGate toOutput toLatch packedWith
+  to-gate = (
+    append-nil (toOutput net explicit (outputCount net)),
+    λ k. sym (append-assoc (toOutput net explicit (outputCount net)) (joined (packedGate net) k) (packedGate net k)),
+    rw (append-assoc, append-assoc),
+  )
+
+and-false : (t : Bool) → (t && false) ≡ false
+and-false true = refl
+and-false false = refl
+
+-- the row of a latch, with its reset or without
+row-of : (next reset : ℕ) (row : List ℕ) → (row ≡ line next (reset ∷ [])) ⊎ ((reset ≡ 0) × (row ≡ line next [])) → (written : Bool) × (row ≡ packedLatchRow written next reset)
+unfolding packedLatchRow
+row-of next reset row (inl e) = (true, e ∙ rw (and-false (eqb reset 0)))
+row-of next reset row (inr e) = (false, e .1 ∙ rw (eq-eqb reset 0 (e .0)))
+
+latch-over : (net buf : List ℕ) (explicit : ℕ → Bool) (k next reset : ℕ) (row more : List ℕ) → isNetlist net ≡ true → k < latchCount net → next < 100000 → reset < 100000
+    → (row ≡ line next (reset ∷ [])) ⊎ ((reset ≡ 0) × (row ≡ line next []))
+    → (literalOf (maximum net) true < next) ⊎ ((1 < reset) × ((reset ≡ literalOf (latchVariable net k) false → ⊥) ⊎ (6 ≤ freeCount net k)))
+    → length (toLatch net explicit k ++ (row ++ more)) ≤ 65536 → Refuses (toLatch net explicit k ++ (row ++ more)) buf (FaultyLine OutOfLimits (2 + k))
+latch-over net buf explicit k next reset row more is l m1 m2 stands over small =
+    let w = row-of next reset row stands in
+    rw (w .1) (latch-limits net buf explicit k is (w .0) next reset more l m1 m2 over (rw (w .1) at small))
+
 -- ---- what was written
 
 trip : (net : List ℕ) → isNetlist net ≡ true → IsPacked (packedOf net) (take (sizeOf net) net)
@@ -283,10 +359,14 @@ same net other h g e =
     cc
 
 pub read-means : PackedMeans
-unfolding refusalOf
+unfolding refusalOf packedHeader literalRow line
 read-means =
     record {
       numbered = λ line. (refl, refl, refl, refl, refl, refl);
+      lines = λ n. (refl, λ m ms. refl);
+      to-latch = to-latch;
+      to-output = to-output;
+      to-gate = to-gate;
       takes = takes;
       short = short;
       only = only;
@@ -294,15 +374,15 @@ read-means =
       other = λ text buf bytes small none. other text buf small bytes none;
       back = back;
       same = same;
-      header-shape = λ text buf none small. header-shape text buf small none;
+      header-shape = λ text buf none small. header-shape text buf small (λ h. none (h .m) (h .i) (h .l) (h .o) (h .a) (h .more) (h .small .0) (h .small .1) (h .small .2) (h .small .3) (h .small .4) (h .is));
       header-limits = header-limits;
-      latch-shape = λ net buf explicit k more is. latch-shape net buf explicit k is more;
-      latch-limits = λ net buf explicit k written next reset more is. latch-limits net buf explicit k is written next reset more;
-      output-shape = λ net buf explicit k more is. output-shape net buf explicit k is more;
+      latch-shape = λ net buf explicit k more is l none nor. latch-shape net buf explicit k is more l (λ h. none (h .n) (h .more) (h .small) (h .is)) (λ h. nor (h .n) (h .m) (h .more) (h .small .0) (h .small .1) (h .is));
+      latch-limits = latch-over;
+      output-shape = λ net buf explicit k more is l none. output-shape net buf explicit k is more l (λ h. none (h .n) (h .more) (h .small) (h .is));
       output-limits = λ net buf explicit k lit more is. output-limits net buf explicit k is lit more;
-      first-shape = λ net buf explicit k more bytes is. first-shape net buf explicit k is more bytes;
+      first-shape = λ net buf explicit k more bytes is l none. first-shape net buf explicit k is more bytes l (λ h. none (h .n) (h .more) (h .small) (h .is));
       first-limits = λ net buf explicit k d more is. first-limits net buf explicit k is d more;
-      second-shape = λ net buf explicit k d more bytes is. second-shape net buf explicit k is d more bytes;
+      second-shape = λ net buf explicit k d more bytes is l least most none. second-shape net buf explicit k is d more bytes l least most (λ h. none (h .n) (h .more) (h .small) (h .is));
       second-limits = λ net buf explicit k d e more is. second-limits net buf explicit k is d e more;
       extra = extra;
     }

@@ -74,7 +74,7 @@ pub fn three_numbers(s: &[u8], at: usize) -> Line
     fields_at(s, at, 2)
 }
 
-// A line of one number or two. How many is written out here and below: a count by parameter would be a third slower.
+// A line of one number or two. How many is written out here and below: by a count that is handed on, a read is slower.
 pub fn one_or_two(s: &[u8], at: usize) -> Line
     ensures { λ r. ⌜ LineIs (eitherOf (now (s .entry)) 0 at) r ⌝ }
 {

@@ -1,6 +1,6 @@
--- THE CLAIM: a byte run has the bits of its number and no byte more than are needed, and a netlist is written exactly
--- where there is room for its packed file, which its own numbers settle and which has at most 28,706 bytes, as one has.
--- Assumes nothing.
+-- THE CLAIM: a byte run has the bits of its number and no byte more than are needed, a file has the netlist's numbers in
+-- their places, and a netlist is written exactly where there is room for its packed file, which its own numbers settle
+-- and which has at most 28,706 bytes, as one has. Assumes nothing.
 use mathlib.Core.Path.{_≡_, refl}
 use mathlib.Core.Bool.{Bool, true, false, _&&_}
 use mathlib.Core.List.{List, [], _∷_, _++_}

@@ -1,8 +1,8 @@
 // The AIGER binary format: the file of a netlist, written into a lent buffer. Its lines are those of aiger, less the
 // inputs and the latches' own literals; its gates are byte runs. Knows nothing of graphs.
-// Exports that a byte run has the bits of its number and no byte more than are needed, that a netlist is written
-// exactly where there is room for its file, that no file has more than 28,706 bytes, and that surplus numbers change
-// nothing.
+// Exports that a byte run has the bits of its number and no byte more than are needed, what stands in a file by the
+// netlist's numbers, that a netlist is written exactly where there is room for its file, 16 and 12 else, that no file
+// has more than 28,706 bytes, and that surplus numbers change nothing.
 use aiger::Cause;
 use aiger::Written;
 use aiger::put_header;

@@ -2,7 +2,7 @@
 // AIGER file of a graph, as text and in the binary format. A refusal of what a page needs is the page's text; a page
 // itself is refused only where the buffer is too short for it. Knows nothing of where its bytes come from or go to.
 // Exports that the monitor's page names exactly the cycles that some setting and some rejecting path condemn, and says
-// rejected exactly if there is one.
+// rejected exactly if there is one; and that the other pages are the file of the graph's monitor, or its refusal.
 use aiger::Written;
 use builder::Built;
 use calls::Tally;
@@ -19,11 +19,11 @@ ghost use lib.ListN.{length};
 ghost use Rattle.netlist.specs.Valid.{isNetlist};
 ghost use Rattle.assertion.specs.Paths.{PathsMean};
 ghost use Rattle.graph.specs.Reading.{graphOf};
+ghost use Rattle.aiger.specs.Format.{fileOf};
+ghost use Rattle.packed.specs.Format.{packedOf};
 ghost use Rattle.aiger.specs.Write.{writeEnd, writeAs};
 ghost use Rattle.page_text.specs.Lines.{refusedLine, report};
 ghost use Rattle.page.specs.Pages.{refusalOf, inputRefusal, JudgementMeans, graphPage, tracePage, pageEnd, pageOf, monitorText, aigerText, packedText, FilePage};
-ghost use Rattle.aiger.specs.Format.{fileOf};
-ghost use Rattle.packed.specs.Format.{packedOf};
 ghost use Rattle.page.specs.Private.Files.{fileIn, fileText};
 
 // The longest input of a program.

@@ -2,7 +2,7 @@
 -- taken, and that both forms of a netlist read alike. Assumes nothing.
 use mathlib.Core.Path.{_≡_, refl, sym, ap, ap₂, _∙_}
 use mathlib.Core.Bool.{Bool, true, false, true≢false}
-use mathlib.Core.List.{List, _∷_, [], _++_}
+use mathlib.Core.List.{List, _++_}
 use mathlib.Core.Logic.{_⊎_, inl, inr}
 use Prim.Native.Nat.{ℕ, _<_, _≤_}
 use native.Mathlib.Omega.{arith}
@@ -25,13 +25,12 @@ use Rattle.aiger_read.specs.declared.Cause.{Cause as TextCause}
 use Rattle.aiger_read.specs.declared.Cause.the-variants as text
 use Rattle.aiger_read.specs.declared.ReadOutcome.{ReadOutcome as TextOutcome}
 use Rattle.aiger_read.specs.declared.ReadOutcome.the-variants as told
-use Rattle.aiger_read.specs.Read.{ReadEnd as TextEnd, readEnd as textEnd, maxText, readAs as textReadAs, readOf as textReadOf, refusalOf as textRefusalOf}
+use Rattle.aiger_read.specs.Read.{readEnd as textEnd, maxText, readAs as textReadAs, readOf as textReadOf, refusalOf as textRefusalOf}
 use Rattle.aiger_read.specs.Files.{fileRead}
 use Rattle.aiger_read.specs.Claims.{ReadMeans as TextMeans, IsFile as IsText}
 use Rattle.aiger_read.proofs.ClaimLaws.{read-means as text-means}
 use Rattle.packed_read.specs.declared.Cause.{Cause}
 use Rattle.packed_read.specs.declared.Cause.the-variants.{TextTooLong, ShortBuffer, FaultyLine, FaultyRun}
-use Rattle.packed_read.specs.declared.ReadOutcome.{ReadOutcome}
 use Rattle.packed_read.specs.declared.ReadOutcome.the-variants.{Numbers, Refused}
 use Rattle.packed_read.specs.Read.{ReadEnd, readEnd, readOf as packedReadOf, refusalOf}
 use Rattle.packed_read.specs.Claims.{IsPacked, PackedMeans}

@@ -1,5 +1,5 @@
 -- A refusal of either reader leaves the buffer as it was. Assumes nothing.
-use mathlib.Core.Path.{_≡_, refl, ap}
+use mathlib.Core.Path.{_≡_, refl}
 use mathlib.Core.Bool.{Bool, true, false, cond, not}
 use mathlib.Core.List.{List, _++_}
 use Prim.Native.Nat.{ℕ, zero, suc}
@@ -9,13 +9,11 @@ use lib.ListN.{length, drop}
 use Rattle.aiger_lines.specs.Blocks.{Rows, rows, failed}
 use Rattle.aiger_read.specs.declared.Cause.{Cause as TextCause}
 use Rattle.aiger_read.specs.declared.Cause.the-variants as text
-use Rattle.aiger_read.specs.declared.ReadOutcome.{ReadOutcome as TextOutcome}
 use Rattle.aiger_read.specs.declared.ReadOutcome.the-variants as told
 use Rattle.aiger_read.specs.Files.{fileRead}
 use Rattle.aiger_read.specs.Read.{ReadEnd as TextEnd, readEnd as textEnd, maxText, readAs as textReadAs, readOf as textReadOf}
 use Rattle.packed_read.specs.declared.Cause.{Cause}
-use Rattle.packed_read.specs.declared.Cause.the-variants.{TextTooLong, ShortBuffer, FaultyLine, FaultyRun}
-use Rattle.packed_read.specs.declared.ReadOutcome.{ReadOutcome}
+use Rattle.packed_read.specs.declared.Cause.the-variants.{TextTooLong, ShortBuffer}
 use Rattle.packed_read.specs.declared.ReadOutcome.the-variants.{Numbers, Refused}
 use Rattle.packed_read.specs.Files.{packedRead}
 use Rattle.packed_read.specs.Read.{ReadEnd, readEnd, readAs as packedReadAs, readOf as packedReadOf}

@@ -1,6 +1,6 @@
 -- The limits of a header and of a latch, test by test. Assumes nothing.
 use mathlib.Core.Path.{_≡_, refl}
-use mathlib.Core.Bool.{Bool, true, false, _&&_}
+use mathlib.Core.Bool.{Bool, true, false, _&&_, and-false}
 use mathlib.Core.List.{[], _∷_}
 use Prim.Native.Nat.{ℕ, _+_, _≤_, _<_}
 use native.Mathlib.Nat.{add-zero}
@@ -32,10 +32,6 @@ module _ (last lit free next reset q : ℕ) where
   pub says-past : last < next → fault OutOfLimits ≡ latchSays last lit free next reset q
   unfolding latchSays
   says-past h = rw (lt-leb next last h)
-
-  and-false : (t : Bool) → (t && false) ≡ false
-  and-false true = refl
-  and-false false = refl
 
   module _ (fits : next ≤ last) where
     pub says-plain : reset ≤ 1 → row (next ∷ reset ∷ []) free q ≡ latchSays last lit free next reset q

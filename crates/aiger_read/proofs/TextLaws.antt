@@ -1,6 +1,6 @@
 -- The lines of the ASCII format are read just where their texts stand and their numbers fit. Assumes nothing.
 use mathlib.Core.Path.{_≡_, refl, sym, ap, _∙_, subst}
-use mathlib.Core.Bool.{Bool, true, false, cond, not, _&&_}
+use mathlib.Core.Bool.{Bool, true, false, cond, not, _&&_, and-false}
 use mathlib.Core.List.{List, [], _∷_}
 use Prim.Native.Nat.{ℕ, _≤_, _<_}
 use native.Mathlib.Omega.{arith}
@@ -17,10 +17,6 @@ use Rattle.aiger_lines.proofs.PlaceLaws.{At}
 use Rattle.aiger_lines.proofs.FieldLaws.{lineOf, Small, fields-stand, stand-fields, not-fewer}
 use Rattle.aiger_lines.proofs.TextLaws.{judged-row, cond-row, fault-row, two, three, misformed, one-at, LatchSays, says-sound, judged-none}
 use Rattle.aiger_read.specs.Lines.{inputAt, latchAt, gateFits, gateAt}
-
-and-false : (t : Bool) → (t && false) ≡ false
-and-false true = refl
-and-false false = refl
 
 -- ---- sound: what a line that was read says of its text and its numbers
 

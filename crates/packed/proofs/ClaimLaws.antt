@@ -2,7 +2,7 @@
 -- their places, and a netlist is written exactly where there is room for its packed file, which its own numbers settle
 -- and which has at most 28,706 bytes, as one has. Assumes nothing.
 use mathlib.Core.Path.{_≡_, refl}
-use mathlib.Core.Bool.{Bool, true, false, _&&_}
+use mathlib.Core.Bool.{Bool, true, false, and-false}
 use mathlib.Core.List.{List, [], _∷_, _++_}
 use mathlib.Core.Logic.{_⊎_, inl, inr}
 use Prim.Native.Nat.{ℕ, _+_, _-_, _*_, _<_, _≤_}
@@ -29,10 +29,6 @@ use Rattle.packed.proofs.RunLaws.{run-value, run-some, run-last, run-be
 use Rattle.packed.proofs.FormatLaws.{latch-plain, packed-same}
 use Rattle.packed.proofs.LengthLaws.{packed-length}
 use Rattle.packed.proofs.LongestLaws.{longest}
-
-and-false : (t : Bool) → (t && false) ≡ false
-and-false true = refl
-and-false false = refl
 
 own : (net other text : List ℕ) → isNetlist net ≡ true → take (sizeOf net) other ≡ take (sizeOf net) net → writeAs (packedOf other) other text ≡ writeAs (packedOf net) net text
 unfolding writeAs packedOf

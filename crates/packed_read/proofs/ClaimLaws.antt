@@ -1,7 +1,7 @@
 -- THE CLAIM: read takes exactly the packed files, reading what was written gives the same numbers, and each fault is
 -- told with its number and line. Assumes nothing.
 use mathlib.Core.Path.{_≡_, refl, sym, ap, _∙_}
-use mathlib.Core.Bool.{Bool, true, false, cond, not, _&&_}
+use mathlib.Core.Bool.{Bool, true, false, cond, not, and-false}
 use mathlib.Core.List.{List, [], _∷_, _++_, append-assoc, append-nil}
 use mathlib.Core.Logic.{_⊎_, inl, inr}
 use Prim.Native.Nat.{ℕ, zero, suc, _+_, _-_, _*_, _<_, _≤_}
@@ -315,10 +315,6 @@ module _ (net : List ℕ) (explicit : ℕ → Bool) where
     λ k. sym (append-assoc (toOutput net explicit (outputCount net)) (joined (packedGate net) k) (packedGate net k)),
     rw (append-assoc, append-assoc),
   )
-
-and-false : (t : Bool) → (t && false) ≡ false
-and-false true = refl
-and-false false = refl
 
 -- the row of a latch, with its reset or without
 row-of : (next reset : ℕ) (row : List ℕ) → (row ≡ line next (reset ∷ [])) ⊎ ((reset ≡ 0) × (row ≡ line next [])) → (written : Bool) × (row ≡ packedLatchRow written next reset)

@@ -8,7 +8,7 @@ use Rattle.text.specs.Quoted.{bytes}
 use Rattle.text.specs.Numbers.{digits, digitsOf}
 use Rattle.netlist.specs.Literals.{literalOf}
 use Rattle.netlist.specs.Lanes.{each}
-use Rattle.netlist.specs.Valid.{headerOk, isWithin, isFree, latchOk, freeCount, outputOk, gateOk, isNetlist}
+use Rattle.netlist.specs.Valid.{headerOk, isWithin, isFree, latchOk, freeCount, outputOk, gateOk, isOutline, isNetlist}
 use Rattle.aiger.specs.Rows.{line, headerRow, literalRow, latchRow, gateRow}
 use Rattle.aiger.specs.Format.{inputLine, latchLine, outputLine, gateLine, fileWith, fileOf}
 
@@ -17,7 +17,7 @@ netlistG =
     12 ∷ 3 ∷ 2 ∷ 1 ∷ 7 ∷ 18 ∷ 0 ∷ 25 ∷ 0 ∷ 24 ∷ 8 ∷ 3 ∷ 10 ∷ 3 ∷ 4 ∷ 2 ∷ 16 ∷ 6 ∷ 16 ∷ 7 ∷ 4 ∷ 0 ∷ 23 ∷ 21 ∷ []
 
 netlist-of-G : isNetlist netlistG ≡ true
-unfolding netlistG isNetlist headerOk each outputOk isWithin latchOk isFree freeCount gateOk literalOf
+unfolding netlistG isNetlist isOutline headerOk each outputOk isWithin latchOk isFree freeCount gateOk literalOf
 netlist-of-G = refl
 
 file-of-G : fileOf netlistG
@@ -31,7 +31,7 @@ checkedG =
     13 ∷ 3 ∷ 2 ∷ 2 ∷ 8 ∷ 18 ∷ 0 ∷ 25 ∷ 0 ∷ 24 ∷ 27 ∷ 8 ∷ 3 ∷ 10 ∷ 3 ∷ 4 ∷ 2 ∷ 16 ∷ 6 ∷ 16 ∷ 7 ∷ 4 ∷ 0 ∷ 23 ∷ 21 ∷ 24 ∷ 19 ∷ []
 
 netlist-of-checked : isNetlist checkedG ≡ true
-unfolding checkedG isNetlist headerOk each outputOk isWithin latchOk isFree freeCount gateOk literalOf
+unfolding checkedG isNetlist isOutline headerOk each outputOk isWithin latchOk isFree freeCount gateOk literalOf
 netlist-of-checked = refl
 
 file-of-checked : fileOf checkedG
@@ -45,5 +45,5 @@ not-netlists : (isNetlist (1 ∷ 1 ∷ 0 ∷ 0 ∷ 0 ∷ []) ≡ false)
     × (isNetlist (1 ∷ 1 ∷ 0 ∷ 3 ∷ 0 ∷ 2 ∷ 2 ∷ 2 ∷ []) ≡ false)
     × (isNetlist (1 ∷ 1 ∷ 0 ∷ 2 ∷ 0 ∷ 2 ∷ 4 ∷ []) ≡ false)
     × (isNetlist (1 ∷ 1 ∷ 0 ∷ 2 ∷ 0 ∷ 2 ∷ []) ≡ false)
-unfolding isNetlist headerOk each outputOk isWithin literalOf
+unfolding isNetlist isOutline headerOk each outputOk isWithin literalOf
 not-netlists = (refl, refl, refl, refl)

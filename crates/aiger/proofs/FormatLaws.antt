@@ -11,7 +11,7 @@ use lib.Seq.{getD-take, length-take-le}
 use Rattle.text.proofs.WriterLaws.{joined-same}
 use Rattle.netlist.specs.Layout.{maximum, inputCount, latchCount, outputCount, gateCount, nextAt, resetAt, outputAt, operandsAt, sizeOf}
 use Rattle.netlist.specs.Lanes.{each}
-use Rattle.netlist.specs.Valid.{headerOk, isWithin, isFree, latchOk, freeCount, outputOk, gateOk, isNetlist}
+use Rattle.netlist.specs.Valid.{headerOk, isWithin, isFree, latchOk, freeCount, outputOk, gateOk, isOutline, isNetlist}
 use Rattle.netlist.proofs.EachLaws.{each-same}
 use Rattle.netlist.proofs.ValidLaws.{valid}
 use Rattle.aiger.specs.Format.{latchLine, outputLine, gateLine, fileWith}
@@ -112,13 +112,13 @@ module _ (a b : List ℕ) (same : (i : ℕ) → i < sizeOf b → getD a i 0 ≡ 
   each-gate = rw gates-same (each-same (gateCount b) (gateOk a) (gateOk b) gate-same)
 
   pub netlist-same : isNetlist b ≡ true → sizeOf b ≤ length a → isNetlist a ≡ true
-  unfolding isNetlist
+  unfolding isNetlist isOutline
   netlist-same e long =
       let v = valid b e in
       let size = size-same in
       let five = le-leb 5 (length a) (omega arith) ∙ sym (le-leb 5 (length b) (omega arith)) in
       let enough = le-leb (sizeOf a) (length a) (omega arith) ∙ sym (le-leb (sizeOf b) (length b) (v .long)) in
-      ap₂ _&&_ five (ap₂ _&&_ header-same (ap₂ _&&_ enough (ap₂ _&&_ each-output (ap₂ _&&_ each-latch (ap₂ _&&_ few-same each-gate))))) ∙ e
+      ap₂ _&&_ (ap₂ _&&_ five (ap₂ _&&_ header-same (ap₂ _&&_ enough (ap₂ _&&_ each-output (ap₂ _&&_ each-latch few-same))))) each-gate ∙ e
 
 -- ---- a netlist without its surplus
 

@@ -6,7 +6,7 @@ use lib.ListN.{replicate}
 use Rattle.netlist.specs.Literals.{literalOf, variableOf, isInverted}
 use Rattle.netlist.specs.Lanes.{lane, each, numberOf, wordOf}
 use Rattle.netlist.specs.Meaning.{signed, litOf, bitOf, gateOf, front, valuesOf, nextsOf, nextOf, outputOf}
-use Rattle.netlist.specs.Valid.{headerOk, isWithin, isFree, latchOk, freeCount, outputOk, gateOk, isNetlist}
+use Rattle.netlist.specs.Valid.{headerOk, isWithin, isFree, latchOk, freeCount, outputOk, gateOk, isOutline, isNetlist}
 use Rattle.calls.specs.declared.tally.Tally.{Tally}
 use Rattle.calls.specs.Tallies.{cleared, isRejected, isChecked, counted, hasRoom}
 use Rattle.calls.specs.Refusals.{isShort, hasLatches, hasValues, startCheck, stepCheck, runCheck}
@@ -53,35 +53,35 @@ trace = 49 ∷ 49 ∷ 48 ∷ 10 ∷ 49 ∷ 49 ∷ 49 ∷ 10 ∷ 48 ∷ 49 ∷ 48
 
 -- in the first two cycles a rule was at stake
 third-with : after with-checked 2 trace ≡ tally 3 1 2
-unfolding called stepGives runGives stepOf stepAs stepCheck runOf runAs ranTo runCycles runCycle verdictByte verdictOf runCheck isShort faultOf faultFrom fitsLine lineCount cyclesOf cyclesFrom isBit isCycle hasRoom counted isRejected isChecked startOf startAs startWords startBit startCheck hasLatches hasValues isNetlist headerOk outputOk latchOk gateOk isWithin isFree freeCount each lane numberOf wordOf literalOf variableOf isInverted outputWord checkedWord latchesAfter valuesAfter cycleWords outputOf nextOf nextsOf valuesOf front Rattle.netlist.specs.Meaning.gatesOf gateOf bitOf litOf signed
+unfolding called stepGives runGives stepOf stepAs stepCheck runOf runAs ranTo runCycles runCycle verdictByte verdictOf runCheck isShort faultOf faultFrom fitsLine lineCount cyclesOf cyclesFrom isBit isCycle hasRoom counted isRejected isChecked startOf startAs startWords startBit startCheck hasLatches hasValues isNetlist isOutline headerOk outputOk latchOk gateOk isWithin isFree freeCount each lane numberOf wordOf literalOf variableOf isInverted outputWord checkedWord latchesAfter valuesAfter cycleWords outputOf nextOf nextsOf valuesOf front Rattle.netlist.specs.Meaning.gatesOf gateOf bitOf litOf signed
 third-with = refl
 
 -- built without, the third number does not move
 third-without : after without 2 trace ≡ tally 3 1 0
-unfolding called stepGives runGives stepOf stepAs stepCheck runOf runAs ranTo runCycles runCycle verdictByte verdictOf runCheck isShort faultOf faultFrom fitsLine lineCount cyclesOf cyclesFrom isBit isCycle hasRoom counted isRejected isChecked startOf startAs startWords startBit startCheck hasLatches hasValues isNetlist headerOk outputOk latchOk gateOk isWithin isFree freeCount each lane numberOf wordOf literalOf variableOf isInverted outputWord checkedWord latchesAfter valuesAfter cycleWords outputOf nextOf nextsOf valuesOf front Rattle.netlist.specs.Meaning.gatesOf gateOf bitOf litOf signed
+unfolding called stepGives runGives stepOf stepAs stepCheck runOf runAs ranTo runCycles runCycle verdictByte verdictOf runCheck isShort faultOf faultFrom fitsLine lineCount cyclesOf cyclesFrom isBit isCycle hasRoom counted isRejected isChecked startOf startAs startWords startBit startCheck hasLatches hasValues isNetlist isOutline headerOk outputOk latchOk gateOk isWithin isFree freeCount each lane numberOf wordOf literalOf variableOf isInverted outputWord checkedWord latchesAfter valuesAfter cycleWords outputOf nextOf nextsOf valuesOf front Rattle.netlist.specs.Meaning.gatesOf gateOf bitOf litOf signed
 third-without = refl
 
 -- 010 without init
 no-init : after with-checked 2 (48 ∷ 49 ∷ 48 ∷ 10 ∷ []) ≡ tally 1 0 0
-unfolding called stepGives runGives stepOf stepAs stepCheck runOf runAs ranTo runCycles runCycle verdictByte verdictOf runCheck isShort faultOf faultFrom fitsLine lineCount cyclesOf cyclesFrom isBit isCycle hasRoom counted isRejected isChecked startOf startAs startWords startBit startCheck hasLatches hasValues isNetlist headerOk outputOk latchOk gateOk isWithin isFree freeCount each lane numberOf wordOf literalOf variableOf isInverted outputWord checkedWord latchesAfter valuesAfter cycleWords outputOf nextOf nextsOf valuesOf front Rattle.netlist.specs.Meaning.gatesOf gateOf bitOf litOf signed
+unfolding called stepGives runGives stepOf stepAs stepCheck runOf runAs ranTo runCycles runCycle verdictByte verdictOf runCheck isShort faultOf faultFrom fitsLine lineCount cyclesOf cyclesFrom isBit isCycle hasRoom counted isRejected isChecked startOf startAs startWords startBit startCheck hasLatches hasValues isNetlist isOutline headerOk outputOk latchOk gateOk isWithin isFree freeCount each lane numberOf wordOf literalOf variableOf isInverted outputWord checkedWord latchesAfter valuesAfter cycleWords outputOf nextOf nextsOf valuesOf front Rattle.netlist.specs.Meaning.gatesOf gateOf bitOf litOf signed
 no-init = refl
 
 -- both words of a step on 110: rejected, and a rule at stake, in every lane
 words-with : first with-checked 2 (49 ∷ 49 ∷ 48 ∷ []) ≡ stepped (Output 0 ones)
-unfolding called stepGives runGives stepOf stepAs stepCheck runOf runAs ranTo runCycles runCycle verdictByte verdictOf runCheck isShort faultOf faultFrom fitsLine lineCount cyclesOf cyclesFrom isBit isCycle hasRoom counted isRejected isChecked startOf startAs startWords startBit startCheck hasLatches hasValues isNetlist headerOk outputOk latchOk gateOk isWithin isFree freeCount each lane numberOf wordOf literalOf variableOf isInverted outputWord checkedWord latchesAfter valuesAfter cycleWords outputOf nextOf nextsOf valuesOf front Rattle.netlist.specs.Meaning.gatesOf gateOf bitOf litOf signed
+unfolding called stepGives runGives stepOf stepAs stepCheck runOf runAs ranTo runCycles runCycle verdictByte verdictOf runCheck isShort faultOf faultFrom fitsLine lineCount cyclesOf cyclesFrom isBit isCycle hasRoom counted isRejected isChecked startOf startAs startWords startBit startCheck hasLatches hasValues isNetlist isOutline headerOk outputOk latchOk gateOk isWithin isFree freeCount each lane numberOf wordOf literalOf variableOf isInverted outputWord checkedWord latchesAfter valuesAfter cycleWords outputOf nextOf nextsOf valuesOf front Rattle.netlist.specs.Meaning.gatesOf gateOf bitOf litOf signed
 words-with = refl
 
 -- the second is 0 where there is one output
 words-without : first without 2 (49 ∷ 49 ∷ 48 ∷ []) ≡ stepped (Output 0 0)
-unfolding called stepGives runGives stepOf stepAs stepCheck runOf runAs ranTo runCycles runCycle verdictByte verdictOf runCheck isShort faultOf faultFrom fitsLine lineCount cyclesOf cyclesFrom isBit isCycle hasRoom counted isRejected isChecked startOf startAs startWords startBit startCheck hasLatches hasValues isNetlist headerOk outputOk latchOk gateOk isWithin isFree freeCount each lane numberOf wordOf literalOf variableOf isInverted outputWord checkedWord latchesAfter valuesAfter cycleWords outputOf nextOf nextsOf valuesOf front Rattle.netlist.specs.Meaning.gatesOf gateOf bitOf litOf signed
+unfolding called stepGives runGives stepOf stepAs stepCheck runOf runAs ranTo runCycles runCycle verdictByte verdictOf runCheck isShort faultOf faultFrom fitsLine lineCount cyclesOf cyclesFrom isBit isCycle hasRoom counted isRejected isChecked startOf startAs startWords startBit startCheck hasLatches hasValues isNetlist isOutline headerOk outputOk latchOk gateOk isWithin isFree freeCount each lane numberOf wordOf literalOf variableOf isInverted outputWord checkedWord latchesAfter valuesAfter cycleWords outputOf nextOf nextsOf valuesOf front Rattle.netlist.specs.Meaning.gatesOf gateOf bitOf litOf signed
 words-without = refl
 
 -- 11: high in the lanes with k = 1, 0xAAAA AAAA AAAA AAAA
 lanes-of-k : first constant 3 (49 ∷ 49 ∷ []) ≡ stepped (Output ones 12297829382473034410)
-unfolding called stepGives runGives stepOf stepAs stepCheck runOf runAs ranTo runCycles runCycle verdictByte verdictOf runCheck isShort faultOf faultFrom fitsLine lineCount cyclesOf cyclesFrom isBit isCycle hasRoom counted isRejected isChecked startOf startAs startWords startBit startCheck hasLatches hasValues isNetlist headerOk outputOk latchOk gateOk isWithin isFree freeCount each lane numberOf wordOf literalOf variableOf isInverted outputWord checkedWord latchesAfter valuesAfter cycleWords outputOf nextOf nextsOf valuesOf front Rattle.netlist.specs.Meaning.gatesOf gateOf bitOf litOf signed
+unfolding called stepGives runGives stepOf stepAs stepCheck runOf runAs ranTo runCycles runCycle verdictByte verdictOf runCheck isShort faultOf faultFrom fitsLine lineCount cyclesOf cyclesFrom isBit isCycle hasRoom counted isRejected isChecked startOf startAs startWords startBit startCheck hasLatches hasValues isNetlist isOutline headerOk outputOk latchOk gateOk isWithin isFree freeCount each lane numberOf wordOf literalOf variableOf isInverted outputWord checkedWord latchesAfter valuesAfter cycleWords outputOf nextOf nextsOf valuesOf front Rattle.netlist.specs.Meaning.gatesOf gateOf bitOf litOf signed
 lanes-of-k = refl
 
 -- 11, 10: each counts once
 counted-once : after constant 3 (49 ∷ 49 ∷ 10 ∷ 49 ∷ 48 ∷ 10 ∷ []) ≡ tally 2 1 2
-unfolding called stepGives runGives stepOf stepAs stepCheck runOf runAs ranTo runCycles runCycle verdictByte verdictOf runCheck isShort faultOf faultFrom fitsLine lineCount cyclesOf cyclesFrom isBit isCycle hasRoom counted isRejected isChecked startOf startAs startWords startBit startCheck hasLatches hasValues isNetlist headerOk outputOk latchOk gateOk isWithin isFree freeCount each lane numberOf wordOf literalOf variableOf isInverted outputWord checkedWord latchesAfter valuesAfter cycleWords outputOf nextOf nextsOf valuesOf front Rattle.netlist.specs.Meaning.gatesOf gateOf bitOf litOf signed
+unfolding called stepGives runGives stepOf stepAs stepCheck runOf runAs ranTo runCycles runCycle verdictByte verdictOf runCheck isShort faultOf faultFrom fitsLine lineCount cyclesOf cyclesFrom isBit isCycle hasRoom counted isRejected isChecked startOf startAs startWords startBit startCheck hasLatches hasValues isNetlist isOutline headerOk outputOk latchOk gateOk isWithin isFree freeCount each lane numberOf wordOf literalOf variableOf isInverted outputWord checkedWord latchesAfter valuesAfter cycleWords outputOf nextOf nextsOf valuesOf front Rattle.netlist.specs.Meaning.gatesOf gateOf bitOf litOf signed
 counted-once = refl

@@ -8,7 +8,7 @@ use lib.ListN.{length}
 use Rattle.netlist.specs.Literals.{literalOf, variableOf, isInverted}
 use Rattle.netlist.specs.Lanes.{lane, each, numberOf, wordOf}
 use Rattle.netlist.specs.Meaning.{signed, litOf, bitOf, gateOf, front, valuesOf, nextsOf, nextOf, outputOf}
-use Rattle.netlist.specs.Valid.{headerOk, isWithin, isFree, latchOk, freeCount, outputOk, gateOk, isNetlist}
+use Rattle.netlist.specs.Valid.{headerOk, isWithin, isFree, latchOk, freeCount, outputOk, gateOk, isOutline, isNetlist}
 use Rattle.assertion.specs.declared.Mode.the-variants.{Unsaid}
 use Rattle.assertion.specs.Graph.{Bytes, signal, constant, alike, signalsFrom, constantsFrom, Name, Graph, bitsOf, signalBits, constantBits, isTerminal}
 use Rattle.circuit.specs.Build.{firstEdgeLatch, firstGate, alikeOf, bitLiteral, formula, happyOr, condemnedOr, edgePiece, masked, gathered, judged, accepted, gatesOf}
@@ -72,7 +72,7 @@ tally c r = record { cycles = c; rejected = r; checked = 0 }
 
 -- start is accepted with two latch words
 starts : startCheck numbers 2 ≡ Passed
-unfolding startCheck hasLatches isNetlist headerOk outputOk latchOk gateOk isWithin isFree freeCount each literalOf
+unfolding startCheck hasLatches isNetlist isOutline headerOk outputOk latchOk gateOk isWithin isFree freeCount each literalOf
 starts = refl
 
 abbrev begun : Kept
@@ -86,16 +86,16 @@ abbrev trace : List ℕ
 trace = 49 ∷ 49 ∷ 48 ∷ 10 ∷ 49 ∷ 49 ∷ 49 ∷ 10 ∷ 48 ∷ 49 ∷ 48 ∷ 10 ∷ []
 
 ran-bytes : called numbers begun (runCall trace values (9 ∷ 9 ∷ 9 ∷ 9 ∷ [])) .verdicts ≡ 1 ∷ 0 ∷ 0 ∷ 9 ∷ []
-unfolding called runGives runOf runAs ranTo runCycles runCycle verdictByte runCheck isShort faultOf faultFrom fitsLine lineCount cyclesOf cyclesFrom isBit hasRoom counted isRejected isChecked startOf startAs startWords startBit startCheck hasLatches hasValues isNetlist headerOk outputOk latchOk gateOk isWithin isFree freeCount each lane numberOf wordOf literalOf variableOf isInverted outputWord checkedWord latchesAfter valuesAfter cycleWords outputOf nextOf nextsOf valuesOf front Rattle.netlist.specs.Meaning.gatesOf gateOf bitOf litOf signed
+unfolding called runGives runOf runAs ranTo runCycles runCycle verdictByte runCheck isShort faultOf faultFrom fitsLine lineCount cyclesOf cyclesFrom isBit hasRoom counted isRejected isChecked startOf startAs startWords startBit startCheck hasLatches hasValues isNetlist isOutline headerOk outputOk latchOk gateOk isWithin isFree freeCount each lane numberOf wordOf literalOf variableOf isInverted outputWord checkedWord latchesAfter valuesAfter cycleWords outputOf nextOf nextsOf valuesOf front Rattle.netlist.specs.Meaning.gatesOf gateOf bitOf litOf signed
 ran-bytes = refl
 
 ran-tally : called numbers begun (runCall trace values (9 ∷ 9 ∷ 9 ∷ 9 ∷ [])) .kept .tally ≡ tally 3 1
-unfolding called runGives runOf runAs ranTo runCycles runCycle verdictByte runCheck isShort faultOf faultFrom fitsLine lineCount cyclesOf cyclesFrom isBit hasRoom counted isRejected isChecked startOf startAs startWords startBit startCheck hasLatches hasValues isNetlist headerOk outputOk latchOk gateOk isWithin isFree freeCount each lane numberOf wordOf literalOf variableOf isInverted outputWord checkedWord latchesAfter valuesAfter cycleWords outputOf nextOf nextsOf valuesOf front Rattle.netlist.specs.Meaning.gatesOf gateOf bitOf litOf signed
+unfolding called runGives runOf runAs ranTo runCycles runCycle verdictByte runCheck isShort faultOf faultFrom fitsLine lineCount cyclesOf cyclesFrom isBit hasRoom counted isRejected isChecked startOf startAs startWords startBit startCheck hasLatches hasValues isNetlist isOutline headerOk outputOk latchOk gateOk isWithin isFree freeCount each lane numberOf wordOf literalOf variableOf isInverted outputWord checkedWord latchesAfter valuesAfter cycleWords outputOf nextOf nextsOf valuesOf front Rattle.netlist.specs.Meaning.gatesOf gateOf bitOf litOf signed
 ran-tally = refl
 
 -- the last cycle is accepted, the run is not
 ran-verdict : called numbers begun (runCall trace values (9 ∷ 9 ∷ 9 ∷ 9 ∷ [])) .answer ≡ ran (Done Rejected)
-unfolding called runGives runOf runAs ranTo runCycles runCycle verdictByte verdictOf runCheck isShort faultOf faultFrom fitsLine lineCount cyclesOf cyclesFrom isBit hasRoom counted isRejected isChecked startOf startAs startWords startBit startCheck hasLatches hasValues isNetlist headerOk outputOk latchOk gateOk isWithin isFree freeCount each lane numberOf wordOf literalOf variableOf isInverted outputWord checkedWord latchesAfter valuesAfter cycleWords outputOf nextOf nextsOf valuesOf front Rattle.netlist.specs.Meaning.gatesOf gateOf bitOf litOf signed
+unfolding called runGives runOf runAs ranTo runCycles runCycle verdictByte verdictOf runCheck isShort faultOf faultFrom fitsLine lineCount cyclesOf cyclesFrom isBit hasRoom counted isRejected isChecked startOf startAs startWords startBit startCheck hasLatches hasValues isNetlist isOutline headerOk outputOk latchOk gateOk isWithin isFree freeCount each lane numberOf wordOf literalOf variableOf isInverted outputWord checkedWord latchesAfter valuesAfter cycleWords outputOf nextOf nextsOf valuesOf front Rattle.netlist.specs.Meaning.gatesOf gateOf bitOf litOf signed
 ran-verdict = refl
 
 -- two runs on one tally, first 110, then 111: each has the verdict of its own cycles
@@ -103,20 +103,20 @@ abbrev after-110 : Kept
 after-110 = called numbers begun (runCall (49 ∷ 49 ∷ 48 ∷ 10 ∷ []) values (9 ∷ [])) .kept
 
 first-verdict : called numbers begun (runCall (49 ∷ 49 ∷ 48 ∷ 10 ∷ []) values (9 ∷ [])) .answer ≡ ran (Done Rejected)
-unfolding called runGives runOf runAs ranTo runCycles runCycle verdictByte verdictOf runCheck isShort faultOf faultFrom fitsLine lineCount cyclesOf cyclesFrom isBit hasRoom counted isRejected isChecked startOf startAs startWords startBit startCheck hasLatches hasValues isNetlist headerOk outputOk latchOk gateOk isWithin isFree freeCount each lane numberOf wordOf literalOf variableOf isInverted outputWord checkedWord latchesAfter valuesAfter cycleWords outputOf nextOf nextsOf valuesOf front Rattle.netlist.specs.Meaning.gatesOf gateOf bitOf litOf signed
+unfolding called runGives runOf runAs ranTo runCycles runCycle verdictByte verdictOf runCheck isShort faultOf faultFrom fitsLine lineCount cyclesOf cyclesFrom isBit hasRoom counted isRejected isChecked startOf startAs startWords startBit startCheck hasLatches hasValues isNetlist isOutline headerOk outputOk latchOk gateOk isWithin isFree freeCount each lane numberOf wordOf literalOf variableOf isInverted outputWord checkedWord latchesAfter valuesAfter cycleWords outputOf nextOf nextsOf valuesOf front Rattle.netlist.specs.Meaning.gatesOf gateOf bitOf litOf signed
 first-verdict = refl
 
 second-verdict : called numbers after-110 (runCall (49 ∷ 49 ∷ 49 ∷ 10 ∷ []) values (9 ∷ [])) .answer ≡ ran (Done Accepted)
-unfolding called runGives runOf runAs ranTo runCycles runCycle verdictByte verdictOf runCheck isShort faultOf faultFrom fitsLine lineCount cyclesOf cyclesFrom isBit hasRoom counted isRejected isChecked startOf startAs startWords startBit startCheck hasLatches hasValues isNetlist headerOk outputOk latchOk gateOk isWithin isFree freeCount each lane numberOf wordOf literalOf variableOf isInverted outputWord checkedWord latchesAfter valuesAfter cycleWords outputOf nextOf nextsOf valuesOf front Rattle.netlist.specs.Meaning.gatesOf gateOf bitOf litOf signed
+unfolding called runGives runOf runAs ranTo runCycles runCycle verdictByte verdictOf runCheck isShort faultOf faultFrom fitsLine lineCount cyclesOf cyclesFrom isBit hasRoom counted isRejected isChecked startOf startAs startWords startBit startCheck hasLatches hasValues isNetlist isOutline headerOk outputOk latchOk gateOk isWithin isFree freeCount each lane numberOf wordOf literalOf variableOf isInverted outputWord checkedWord latchesAfter valuesAfter cycleWords outputOf nextOf nextsOf valuesOf front Rattle.netlist.specs.Meaning.gatesOf gateOf bitOf litOf signed
 second-verdict = refl
 
 -- a run with a verdict buffer that is too short is refused: it gives no cycle, and the tally stays
 refused-run : called numbers begun (runCall trace values (9 ∷ 9 ∷ [])) .cycles ≡ []
-unfolding called runGives runOf runAs runCheck isShort faultOf faultFrom fitsLine lineCount isBit hasRoom startOf startAs startWords startCheck hasLatches hasValues isNetlist headerOk outputOk latchOk gateOk isWithin isFree freeCount each literalOf
+unfolding called runGives runOf runAs runCheck isShort faultOf faultFrom fitsLine lineCount isBit hasRoom startOf startAs startWords startCheck hasLatches hasValues isNetlist isOutline headerOk outputOk latchOk gateOk isWithin isFree freeCount each literalOf
 refused-run = refl
 
 refused-tally : called numbers begun (runCall trace values (9 ∷ 9 ∷ [])) .kept .tally ≡ tally 0 0
-unfolding called runGives runOf runAs runCheck isShort faultOf faultFrom fitsLine lineCount isBit hasRoom startOf startAs startWords startCheck hasLatches hasValues isNetlist headerOk outputOk latchOk gateOk isWithin isFree freeCount each literalOf
+unfolding called runGives runOf runAs runCheck isShort faultOf faultFrom fitsLine lineCount isBit hasRoom startOf startAs startWords startCheck hasLatches hasValues isNetlist isOutline headerOk outputOk latchOk gateOk isWithin isFree freeCount each literalOf
 refused-tally = refl
 
 -- ---- wide names: `S a 2`, `K k 2`, `V v`, `E v v t a==k k[1]` on 100, 110, 101, 111, over all settings of k
@@ -159,9 +159,9 @@ abbrev wide-run : Call
 wide-run = runCall (49 ∷ 48 ∷ 48 ∷ 10 ∷ 49 ∷ 49 ∷ 48 ∷ 10 ∷ 49 ∷ 48 ∷ 49 ∷ 10 ∷ 49 ∷ 49 ∷ 49 ∷ 10 ∷ []) wide-values (9 ∷ 9 ∷ 9 ∷ 9 ∷ [])
 
 wide-bytes : called wide-numbers wide-begun wide-run .verdicts ≡ 1 ∷ 1 ∷ 0 ∷ 0 ∷ []
-unfolding called runGives runOf runAs ranTo runCycles runCycle verdictByte runCheck isShort faultOf faultFrom fitsLine lineCount cyclesOf cyclesFrom isBit hasRoom counted isRejected isChecked startOf startAs startWords startBit startCheck hasLatches hasValues isNetlist headerOk outputOk latchOk gateOk isWithin isFree freeCount each lane numberOf wordOf literalOf variableOf isInverted outputWord checkedWord latchesAfter valuesAfter cycleWords outputOf nextOf nextsOf valuesOf front Rattle.netlist.specs.Meaning.gatesOf gateOf bitOf litOf signed
+unfolding called runGives runOf runAs ranTo runCycles runCycle verdictByte runCheck isShort faultOf faultFrom fitsLine lineCount cyclesOf cyclesFrom isBit hasRoom counted isRejected isChecked startOf startAs startWords startBit startCheck hasLatches hasValues isNetlist isOutline headerOk outputOk latchOk gateOk isWithin isFree freeCount each lane numberOf wordOf literalOf variableOf isInverted outputWord checkedWord latchesAfter valuesAfter cycleWords outputOf nextOf nextsOf valuesOf front Rattle.netlist.specs.Meaning.gatesOf gateOf bitOf litOf signed
 wide-bytes = refl
 
 wide-tally : called wide-numbers wide-begun wide-run .kept .tally ≡ tally 4 2
-unfolding called runGives runOf runAs ranTo runCycles runCycle verdictByte runCheck isShort faultOf faultFrom fitsLine lineCount cyclesOf cyclesFrom isBit hasRoom counted isRejected isChecked startOf startAs startWords startBit startCheck hasLatches hasValues isNetlist headerOk outputOk latchOk gateOk isWithin isFree freeCount each lane numberOf wordOf literalOf variableOf isInverted outputWord checkedWord latchesAfter valuesAfter cycleWords outputOf nextOf nextsOf valuesOf front Rattle.netlist.specs.Meaning.gatesOf gateOf bitOf litOf signed
+unfolding called runGives runOf runAs ranTo runCycles runCycle verdictByte runCheck isShort faultOf faultFrom fitsLine lineCount cyclesOf cyclesFrom isBit hasRoom counted isRejected isChecked startOf startAs startWords startBit startCheck hasLatches hasValues isNetlist isOutline headerOk outputOk latchOk gateOk isWithin isFree freeCount each lane numberOf wordOf literalOf variableOf isInverted outputWord checkedWord latchesAfter valuesAfter cycleWords outputOf nextOf nextsOf valuesOf front Rattle.netlist.specs.Meaning.gatesOf gateOf bitOf litOf signed
 wide-tally = refl

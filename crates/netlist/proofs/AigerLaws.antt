@@ -12,7 +12,7 @@ use Rattle.netlist.specs.Layout.{maximum, inputCount, latchCount, output
 use Rattle.netlist.specs.Literals.{variableOf, literalOf}
 use Rattle.netlist.specs.Lanes.{lane}
 use Rattle.netlist.specs.Meaning.{bools, words, litOf, gateOf, gatesOf, front, valuesOf}
-use Rattle.netlist.specs.Valid.{headerOk, isWithin, latchOk, freeCount, outputOk, gateOk, isNetlist}
+use Rattle.netlist.specs.Valid.{headerOk, isWithin, latchOk, freeCount, outputOk, gateOk, isOutline, isNetlist}
 use Rattle.netlist.specs.Aiger.{Satisfies, OneLane, Means}
 use Rattle.netlist.proofs.EachLaws.{each-all}
 use Rattle.netlist.proofs.ValidLaws.{Valid, header, valid}
@@ -125,12 +125,12 @@ header-ok : (m i l o a : ℕ) → m ≡ i + l + a → m ≤ 4095 → 1 ≤ i →
 unfolding headerOk
 header-ok m i l o a e h1 h2 h3 h4 h5 = rw (eq-eqb _ _ e, le-leb _ _ h1, le-leb _ _ h2, le-leb _ _ h3, le-leb _ _ h4, le-leb _ _ h5)
 
--- and numbers whose parts are good
-netlist-ok : (net : List ℕ) → 5 ≤ length net → headerOk (maximum net) (inputCount net) (latchCount net) (outputCount net) (gateCount net) ≡ true → sizeOf net ≤ length net
+-- an outline whose parts are good
+pub outline-ok : (net : List ℕ) → 5 ≤ length net → headerOk (maximum net) (inputCount net) (latchCount net) (outputCount net) (gateCount net) ≡ true → sizeOf net ≤ length net
     → ((k : ℕ) → k < outputCount net → getD net (outputAt net k) 0 ≤ literalOf (maximum net) true) → ((k : ℕ) → k < latchCount net → latchOk net k ≡ true)
-    → freeCount net (latchCount net) ≤ 6 → ((k : ℕ) → k < gateCount net → gateOk net k ≡ true) → isNetlist net ≡ true
-unfolding isNetlist outputOk isWithin
-netlist-ok net n h s outputs latches free gates =
+    → freeCount net (latchCount net) ≤ 6 → isOutline net ≡ true
+unfolding isOutline outputOk isWithin
+outline-ok net n h s outputs latches free =
     rw (
       le-leb _ _ n,
       h,
@@ -138,8 +138,15 @@ netlist-ok net n h s outputs latches free gates =
       each-all (outputOk net) (outputCount net) (λ k l. le-leb _ _ (outputs k l)),
       each-all (latchOk net) (latchCount net) latches,
       le-leb _ _ free,
-      each-all (gateOk net) (gateCount net) gates,
     )
+
+-- and numbers whose parts are good
+netlist-ok : (net : List ℕ) → 5 ≤ length net → headerOk (maximum net) (inputCount net) (latchCount net) (outputCount net) (gateCount net) ≡ true → sizeOf net ≤ length net
+    → ((k : ℕ) → k < outputCount net → getD net (outputAt net k) 0 ≤ literalOf (maximum net) true) → ((k : ℕ) → k < latchCount net → latchOk net k ≡ true)
+    → freeCount net (latchCount net) ≤ 6 → ((k : ℕ) → k < gateCount net → gateOk net k ≡ true) → isNetlist net ≡ true
+unfolding isNetlist
+netlist-ok net n h s outputs latches free gates =
+    rw (outline-ok net n h s outputs latches free, each-all (gateOk net) (gateCount net) gates)
 
 -- THE MEANING holds of every list of numbers
 pub means : (net : List ℕ) → Means net

@@ -3,7 +3,7 @@
 // in a cycle, in one lane and in 64. Knows nothing of graphs, texts or tallies. Exports that in each
 // lane the values of a cycle are the one valuation that satisfies AIGER's equations.
 ghost use mathlib.Core.Path.{_≡_};
-ghost use Rattle.netlist.specs.Valid.{isNetlist};
+ghost use Rattle.netlist.specs.Valid.{isOutline, isNetlist};
 ghost use Rattle.netlist.specs.Aiger.{Means};
 
 pub mod literals;
@@ -11,6 +11,13 @@ mod valid;
 
 pub use literals::Literal;
 pub use literals::Variable;
+
+// Whether the numbers lent are a netlist but for their gates, which may be anything.
+pub fn is_outline(net: &[u16]) -> bool
+    ensures { λ r. ⌜ r ≡ isOutline (now (net .entry)) ⌝ }
+{
+    valid::outline(net)
+}
 
 // Whether the numbers lent are a netlist.
 pub fn is_netlist(net: &[u16]) -> bool

@@ -8,7 +8,7 @@ ghost use lib.Dec.{leb, ltb};
 ghost use Rattle.netlist.specs.Layout.{maximum, inputCount, latchCount, outputCount, latchVariable};
 ghost use Rattle.netlist.specs.Literals.{literalOf};
 ghost use Rattle.netlist.specs.Lanes.{each};
-ghost use Rattle.netlist.specs.Valid.{headerOk, isFree, latchOk, freeCount, outputOk, gateOk, isNetlist};
+ghost use Rattle.netlist.specs.Valid.{headerOk, isFree, latchOk, freeCount, outputOk, gateOk, isOutline, isNetlist};
 use crate::literals::Literal;
 use crate::literals::Variable;
 
@@ -136,9 +136,9 @@ fn gates_ok(net: &[u16], at: usize, first: u16, count: u16) -> bool
     true
 }
 
-// Whether the numbers lent are a netlist.
-pub(crate) fn netlist(net: &[u16]) -> bool
-    ensures { λ r. ⌜ r ≡ isNetlist (now (net .entry)) ⌝ }
+// Whether the numbers lent are a netlist but for their gates, which may be anything.
+pub(crate) fn outline(net: &[u16]) -> bool
+    ensures { λ r. ⌜ r ≡ isOutline (now (net .entry)) ⌝ }
 {
     if net.len() < HEADER {
         return false;
@@ -160,8 +160,20 @@ pub(crate) fn netlist(net: &[u16]) -> bool
     if !outputs_ok(net, outputs, o, last) {
         return false;
     }
-    if !latches_ok(net, i + 1, l, last) {
+    latches_ok(net, i + 1, l, last)
+}
+
+// Whether the numbers lent are a netlist.
+pub(crate) fn netlist(net: &[u16]) -> bool
+    ensures { λ r. ⌜ r ≡ isNetlist (now (net .entry)) ⌝ }
+{
+    if !outline(net) {
         return false;
     }
+    let i = net[1];
+    let l = net[2];
+    let o = net[3];
+    let a = net[4];
+    let operands = HEADER + 2 * (l as usize) + o as usize;
     gates_ok(net, operands, i + l + 1, a)
 }

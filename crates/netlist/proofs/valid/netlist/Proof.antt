@@ -1,197 +1,89 @@
 -- `netlist` meets its contract. Assumes nothing.
 use mathlib.Core.Path.{_≡_, sym, _∙_}
-use mathlib.Core.Bool.{Bool, true, _&&_, and-assoc}
+use mathlib.Core.Bool.{true}
 use mathlib.Core.List.{List}
 use Prim.Native.Nat.{ℕ}
 use native.Mathlib.Omega.{arith}
-use lib.Dec.{leb}
-use lib.ListN.{length}
-use borrow.Author.Tests.{le-leb, lt-leb, not-true, not-false}
-use Rattle.netlist.specs.Layout.{maximum, inputCount, latchCount, outputCount, gateCount, sizeOf}
-use Rattle.netlist.specs.Literals.{literalOf}
-use Rattle.netlist.specs.Lanes.{each}
-use Rattle.netlist.specs.Valid.{headerOk, latchOk, freeCount, outputOk, gateOk, isNetlist}
-use Rattle.netlist.proofs.LiteralLaws.{made}
-use Rattle.netlist.proofs.ValidLaws.{Header, header}
+use borrow.Author.Tests.{not-true, not-false}
+use Rattle.netlist.specs.Valid.{isOutline, isNetlist}
+use Rattle.netlist.proofs.ValidLaws.{Outline, outline}
 use borrow.Author.Needs.{needs}
 use Rattle.netlist.proofs.valid.netlist.Statement.{statement}
 use Rattle.netlist.proofs.valid.netlist.Tie as tie
 
--- what is left to test where the header is right
-abbrev Long : List ℕ → Bool
-Long net = leb (sizeOf net) (length net)
+-- the netlist, and what its outline says of it
+abbrev N : tie.Else1 → List ℕ
+N c = c .before .before .before .args .net .now
 
-abbrev Outputs : List ℕ → Bool
-Outputs net = each (outputCount net) (outputOk net)
+whole : (c : tie.Else1) → isOutline (N c) ≡ true
+whole c = sym (c .before .outline .ensures) ∙ not-false _ (c .if1 .left)
 
-abbrev Latches : List ℕ → Bool
-Latches net = each (latchCount net) (latchOk net) && leb (freeCount net (latchCount net)) 6
+facts : (c : tie.Else1) → Outline (N c)
+facts c = outline (N c) (whole c)
 
-abbrev Gates : List ℕ → Bool
-Gates net = each (gateCount net) (gateOk net)
-
-split : (net : List ℕ) → leb 5 (length net) ≡ true
-    → headerOk (maximum net) (inputCount net) (latchCount net) (outputCount net) (gateCount net) ≡ true
-    → isNetlist net ≡ (Long net && (Outputs net && (Latches net && Gates net)))
-unfolding isNetlist
-split net e1 e2 =
-    let e = and-assoc (each (latchCount net) (latchOk net)) (leb (freeCount net (latchCount net)) 6) (Gates net) in
-    rw (e1, e2, e)
-
--- the netlist, and what each test says of it
-abbrev N : tie.Else2 → List ℕ
-N c = c .before .before .before .before .before .before .before .before .before .args .net .now
-
-h1 : (c : tie.After-header-ok) → leb 5 (length (c .before .before .before .before .before .before .before .before .args .net .now)) ≡ true
-h1 c = le-leb 5 _ (c .before .before .before .before .before .before .if1 .left)
-
-h2 : (c : tie.Else2) → headerOk (maximum (N c)) (inputCount (N c)) (latchCount (N c)) (outputCount (N c)) (gateCount (N c)) ≡ true
-h2 c = sym (c .before .header-ok .ensures) ∙ not-false _ (c .if2 .left)
-
-facts : (c : tie.Else2) → Header (maximum (N c)) (inputCount (N c)) (latchCount (N c)) (outputCount (N c)) (gateCount (N c))
-facts c = header _ _ _ _ _ (h2 c)
-
-left : (c : tie.Else2) → isNetlist (N c) ≡ (Long (N c) && (Outputs (N c) && (Latches (N c) && Gates (N c))))
-left c = split (N c) (h1 (c .before)) (h2 c)
-
-h3 : (c : tie.Else3) → Long (N (c .before)) ≡ true
-h3 c = le-leb _ _ (c .if3 .left)
-
-h4 : (c : tie.Else4) → Outputs (N (c .before .before .before .before)) ≡ true
-h4 c = sym (c .before .outputs-ok .ensures) ∙ not-false _ (c .if4 .left)
-
-h5 : (c : tie.Else5) → Latches (N (c .before .before .before .before .before .before)) ≡ true
-h5 c = sym (c .before .latches-ok .ensures) ∙ not-false _ (c .if5 .left)
+outline-requires : tie.Need-outline-requires
+outline-requires c κs = search needs
 
 returns : tie.Need-returns
 unfolding isNetlist
-returns c = rw (lt-leb 5 _ (c .if1 .taken))
-
-shared-slice-read-m : tie.Need-shared-slice-read-m
-shared-slice-read-m c = search needs
+returns c = let e = sym (c .before .outline .ensures) ∙ not-true _ (c .if1 .taken) in rw e
 
 shared-slice-read-i : tie.Need-shared-slice-read-i
-shared-slice-read-i c = search needs
+shared-slice-read-i c = let h = facts (c .before) in search needs
 
 shared-slice-read-l : tie.Need-shared-slice-read-l
-shared-slice-read-l c = search needs
+shared-slice-read-l c = let h = facts (c .before .before) in search needs
 
 shared-slice-read-o : tie.Need-shared-slice-read-o
-shared-slice-read-o c = search needs
+shared-slice-read-o c = let h = facts (c .before .before .before) in search needs
 
 shared-slice-read-a : tie.Need-shared-slice-read-a
-shared-slice-read-a c = search needs
+shared-slice-read-a c = let h = facts (c .before .before .before .before) in search needs
 
-header-ok-requires : tie.Need-header-ok-requires
-header-ok-requires c κs = search needs
+cast-operands : tie.Need-cast-operands
+cast-operands c = omega (arith, facts (c .before .before .before .before))
+
+mul-operands : tie.Need-mul-operands
+mul-operands c = omega (arith, facts (c .before .before .before .before))
+
+add-operands : tie.Need-add-operands
+add-operands c = omega (arith, facts (c .before .before .before .before))
+
+cast-operands-2 : tie.Need-cast-operands-2
+cast-operands-2 c = omega (arith, facts (c .before .before .before .before))
+
+add-operands-2 : tie.Need-add-operands-2
+add-operands-2 c = omega (arith, facts (c .before .before .before .before))
+
+add-gates-ok : tie.Need-add-gates-ok
+add-gates-ok c = omega (arith, facts (c .before .before .before .before))
+
+add-gates-ok-2 : tie.Need-add-gates-ok-2
+add-gates-ok-2 c = omega (arith, facts (c .before .before .before .before))
+
+gates-ok-requires : tie.Need-gates-ok-requires
+gates-ok-requires c κs = let h = facts (c .before .before .before .before) in search needs
 
 returns-2 : tie.Need-returns-2
 unfolding isNetlist
-returns-2 c = let e = sym (c .before .header-ok .ensures) ∙ not-true _ (c .if2 .taken) in rw (h1 (c .before), e)
-
-cast-outputs : tie.Need-cast-outputs
-cast-outputs c = omega (arith, facts c)
-
-mul-outputs : tie.Need-mul-outputs
-mul-outputs c = omega (arith, facts c)
-
-add-outputs : tie.Need-add-outputs
-add-outputs c = omega (arith, facts c)
-
-cast-operands : tie.Need-cast-operands
-cast-operands c = omega (arith, facts c)
-
-add-operands : tie.Need-add-operands
-add-operands c = omega (arith, facts c)
-
-cast-if3 : tie.Need-cast-if3
-cast-if3 c = omega (arith, facts c)
-
-mul-if3 : tie.Need-mul-if3
-mul-if3 c = omega (arith, facts c)
-
-add-if3 : tie.Need-add-if3
-add-if3 c = omega (arith, facts c)
-
-returns-3 : tie.Need-returns-3
-returns-3 c = sym (left (c .before) ∙ rw (lt-leb _ _ (c .if3 .taken)))
-
-literal-requires : tie.Need-literal-requires
-literal-requires c κs = search needs
-
--- the largest literal
-last : (c : tie.After-literal) → c .literal .result .0 ≡ literalOf (maximum (N (c .before .before))) true
-last c = made _ true (omega (arith, facts (c .before .before))) (c .literal .ensures)
-
-outputs-ok-requires : tie.Need-outputs-ok-requires
-outputs-ok-requires c κs = let e = last c in search needs
-
-returns-4 : tie.Need-returns-4
-returns-4 c =
-    let e3 = c .before .before .before in
-    let e = sym (c .before .outputs-ok .ensures) ∙ not-true _ (c .if4 .taken) in
-    sym (left (e3 .before) ∙ rw (h3 e3, e))
-
-add-latches-ok : tie.Need-add-latches-ok
-add-latches-ok c = omega (arith, facts (c .before .before .before .before))
-
-latches-ok-requires : tie.Need-latches-ok-requires
-latches-ok-requires c κs =
-    let h = facts (c .before .before .before .before) in
-    let e = last (c .before .before) in
-    search needs
-
-returns-5 : tie.Need-returns-5
-returns-5 c =
-    let e4 = c .before .before in
-    let e3 = e4 .before .before .before in
-    let e = sym (c .before .latches-ok .ensures) ∙ not-true _ (c .if5 .taken) in
-    sym (left (e3 .before) ∙ rw (h3 e3, h4 e4, e))
-
-add-gates-ok : tie.Need-add-gates-ok
-add-gates-ok c = omega (arith, facts (c .before .before .before .before .before .before))
-
-add-gates-ok-2 : tie.Need-add-gates-ok-2
-add-gates-ok-2 c = omega (arith, facts (c .before .before .before .before .before .before))
-
-gates-ok-requires : tie.Need-gates-ok-requires
-gates-ok-requires c κs = let h = facts (c .before .before .before .before .before .before) in search needs
-
-returns-6 : tie.Need-returns-6
-returns-6 c =
-    let e5 = c .before in
-    let e4 = e5 .before .before in
-    let e3 = e4 .before .before .before in
-    c .gates-ok .ensures ∙ sym (left (e3 .before) ∙ rw (h3 e3, h4 e4, h5 e5))
+returns-2 c = rw (whole (c .before .before .before .before .before)) (c .gates-ok .ensures)
 
 pub netlist-spec : {M : Type 1} → statement M
 netlist-spec =
     tie.close
     (tie.spec
+    outline-requires
     returns
-    shared-slice-read-m
     shared-slice-read-i
     shared-slice-read-l
     shared-slice-read-o
     shared-slice-read-a
-    header-ok-requires
-    returns-2
-    cast-outputs
-    mul-outputs
-    add-outputs
     cast-operands
+    mul-operands
     add-operands
-    cast-if3
-    mul-if3
-    add-if3
-    returns-3
-    literal-requires
-    outputs-ok-requires
-    returns-4
-    add-latches-ok
-    latches-ok-requires
-    returns-5
+    cast-operands-2
+    add-operands-2
     add-gates-ok
     add-gates-ok-2
     gates-ok-requires
-    returns-6)
+    returns-2)

@@ -1,5 +1,5 @@
--- When the numbers of lines are a netlist, and that the header, latches and outputs of a netlist are read, whatever form
--- the file's other lines have. Assumes nothing.
+-- When the numbers of lines are a netlist, or the outline of one, and that the header, latches and outputs of an outline
+-- are read, whatever form the file's other lines have. Assumes nothing.
 use mathlib.Core.Path.{_≡_, refl, sym, ap, ap₂, _∙_}
 use mathlib.Core.Bool.{Bool, true, false, cond, not, _&&_, _||_}
 use mathlib.Core.List.{List, [], _∷_}
@@ -16,7 +16,7 @@ use Rattle.netlist.specs.Literals.{literalOf, variableOf}
 use Rattle.netlist.specs.Valid.{headerOk, isWithin, isFree, latchOk, freeCount, outputOk, gateOk, isOutline, isNetlist}
 use Rattle.netlist.proofs.EachLaws.{both, each-all}
 use Rattle.netlist.proofs.LiteralLaws.{literal-plain, literal-inverted}
-use Rattle.netlist.proofs.ValidLaws.{Valid, valid, free-below}
+use Rattle.netlist.proofs.ValidLaws.{Outline, outline, free-below}
 use Rattle.aiger.specs.Format.{outputLine}
 use Rattle.aiger_lines.specs.declared.Fault.{Fault}
 use Rattle.aiger_lines.specs.Lines.{Row, row, fault, latchSays}
@@ -58,7 +58,7 @@ pub joined-none : (N : ℕ → List ℕ) (n : ℕ) → ((k : ℕ) → k < n → 
 joined-none N zero h = refl
 joined-none N (suc n) h = rw (joined-none N n (λ k l. h k (omega arith)), h n (omega arith))
 
--- ---- SOUND: numbers that were taken are a netlist
+-- ---- SOUND: numbers that were taken are an outline, and with their gates a netlist
 
 -- a reset that was taken
 reset-taken : (r lit f : ℕ) (t : Bool) → leb r 1 ≡ t → (t || (eqb r lit && ltb f 6)) ≡ true → ((not (not t) || eqb r lit) ≡ true) × (f ≤ 6 → f + cond t 0 1 ≤ 6)
@@ -72,11 +72,14 @@ counted false = refl
 six : {t1 t2 t3 t4 t5 t6 : Bool} → t1 ≡ true → t2 ≡ true → t3 ≡ true → t4 ≡ true → t5 ≡ true → t6 ≡ true → (t1 && (t2 && (t3 && (t4 && (t5 && t6))))) ≡ true
 six a b c d e f = rw (a, b, c, d, e, f)
 
--- what the lines say: each latch, with the uninitialised ones before it, each output and each gate
-pub record Says (net : List ℕ) (L O G : ℕ → List ℕ) (F : ℕ → ℕ) : Type 0 where
+-- what the lines say: each latch, with the uninitialised ones before it, and each output
+pub record Says (net : List ℕ) (L O : ℕ → List ℕ) (F : ℕ → ℕ) : Type 0 where
   pub start : F 0 ≡ 0
   pub latches : (k : ℕ) → k < latchCount net → LatchSays (literalOf (maximum net) true) (literalOf (latchVariable net k) false) (F k) (L k) (F (suc k))
   pub outputs : (k : ℕ) → k < outputCount net → getD (O k) 0 0 ≤ literalOf (maximum net) true
+
+-- and each gate
+pub record Gates (net : List ℕ) (G : ℕ → List ℕ) : Type 0 where
   pub below : (k : ℕ) → k < gateCount net → getD (G k) 0 0 < literalOf (gateVariable net k) false
   pub order : (k : ℕ) → k < gateCount net → getD (G k) 1 0 ≤ getD (G k) 0 0
 
@@ -86,7 +89,7 @@ module _
     {L O G : ℕ → List ℕ}
     {F : ℕ → ℕ}
     (t : Laid net L O G)
-    (says : Says net L O G F)
+    (says : Says net L O F)
   where
     output-ok : (k : ℕ) → k < outputCount net → outputOk net k ≡ true
     unfolding outputOk isWithin
@@ -97,10 +100,6 @@ module _
     latch-ok k h =
         let r = says .latches k h in
         rw (t .next k h, t .reset k h) (ap₂ _&&_ (le-leb _ _ (r .next)) (reset-taken (getD (L k) 1 0) (literalOf (latchVariable net k) false) (F k) (leb (getD (L k) 1 0) 1) refl (r .reset) .0))
-
-    gate-ok : (k : ℕ) → k < gateCount net → gateOk net k ≡ true
-    unfolding gateOk
-    gate-ok k h = rw (t .first k h, t .second k h) (ap₂ _&&_ (lt-ltb _ _ (says .below k h)) (le-leb _ _ (says .order k h)))
 
     free-is : (k : ℕ) → k ≤ latchCount net → (F k ≡ freeCount net k) × (F k ≤ 6)
     unfolding freeCount isFree
@@ -113,7 +112,7 @@ module _
         let m = reset-taken x (literalOf (latchVariable net k) false) (F k) (leb x 1) refl (r .reset) .1 (ih .1) in
         (e ∙ ap₂ _+_ (ih .0) (counted (leb x 1)) ∙ rw (t .reset k (omega arith)), rw e m)
 
-    laid-outline : isOutline net ≡ true
+    pub laid-outline : isOutline net ≡ true
     unfolding isOutline
     laid-outline =
         let f = free-is (latchCount net) (omega arith) in
@@ -125,9 +124,13 @@ module _
         (each-all (latchOk net) (latchCount net) latch-ok)
         (le-leb (freeCount net (latchCount net)) 6 (omega (arith, f .0, f .1)))
 
-    pub laid-netlist : isNetlist net ≡ true
+    gate-ok : Gates net G → (k : ℕ) → k < gateCount net → gateOk net k ≡ true
+    unfolding gateOk
+    gate-ok gates k h = rw (t .first k h, t .second k h) (ap₂ _&&_ (lt-ltb _ _ (gates .below k h)) (le-leb _ _ (gates .order k h)))
+
+    pub laid-netlist : Gates net G → isNetlist net ≡ true
     unfolding isNetlist
-    laid-netlist = ap₂ _&&_ laid-outline (each-all (gateOk net) (gateCount net) gate-ok)
+    laid-netlist gates = ap₂ _&&_ laid-outline (each-all (gateOk net) (gateCount net) (gate-ok gates))
 
 -- ---- COMPLETE: what stands there is read
 
@@ -152,9 +155,9 @@ faulty-run s at T N F e k n line p q l a step bad =
 abbrev pub outputRows : List ℕ → ℕ → ℕ → ℕ → ℕ → Row
 outputRows s m k = lines.outputAt s (literalOf m true)
 
-module _ (net : List ℕ) (is : isNetlist net ≡ true) where
-  abbrev v : Valid net
-  v = valid net is
+module _ (net : List ℕ) (is : isOutline net ≡ true) where
+  abbrev v : Outline net
+  v = outline net is
 
   -- ---- its numbers are small and fit
   pub own-small : (n : ℕ) → n ≤ 4096 → literalOf n false < 100000

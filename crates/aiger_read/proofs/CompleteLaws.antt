@@ -10,7 +10,7 @@ use Rattle.text.specs.Writer.{joined}
 use Rattle.netlist.specs.Layout.{maximum, inputCount, latchCount, outputCount, gateCount, nextAt, resetAt, operandsAt, sizeOf, latchVariable, gateVariable}
 use Rattle.netlist.specs.Literals.{literalOf}
 use Rattle.netlist.specs.Valid.{headerOk, freeCount, isNetlist}
-use Rattle.netlist.proofs.ValidLaws.{Valid, valid}
+use Rattle.netlist.proofs.ValidLaws.{Valid, valid, outline-of}
 use Rattle.aiger.specs.Rows.{headerRow}
 use Rattle.aiger.specs.Format.{inputLine, latchLine, outputLine, gateLine, fileWith}
 use Rattle.aiger_lines.specs.declared.Fault.{Fault}
@@ -42,7 +42,7 @@ module _ (s net : List ℕ) (explicit : ℕ → Bool) (is : isNetlist net ≡ tr
   inputs-run : (p q line : ℕ) → At s p (joined inputLine (inputCount net)) q → rowsOf (inputRows s) (inputCount net) 0 line 0 p ≡ rows [] 0 q
   unfolding inputLine
   inputs-run p q line a =
-      let r = complete-run s (inputRows s) inputLine (λ _. []) (λ _. 0) (inputCount net) line p q a (λ k x y h b. input-complete s 0 x y (literalOf (1 + k) false) (own-small net is (1 + k) (omega (arith, v .few))) b) in
+      let r = complete-run s (inputRows s) inputLine (λ _. []) (λ _. 0) (inputCount net) line p q a (λ k x y h b. input-complete s 0 x y (literalOf (1 + k) false) (own-small net (outline-of net is) (1 + k) (omega (arith, v .few))) b) in
       rw (joined-none (λ _. []) (inputCount net) (λ k h. refl)) at r
 
   latches-run : (p q line : ℕ) → At s p (joined (latchLine net explicit) (latchCount net)) q
@@ -52,15 +52,15 @@ module _ (s net : List ℕ) (explicit : ℕ → Bool) (is : isNetlist net ≡ tr
       complete-run s (latchRows s (maximum net) (inputCount net)) (latchLine net explicit) (λ k. pairAt net (5 + 2 * k)) (freeCount net) (latchCount net) line p q a
       (λ k x y h b.
       latch-complete s (freeCount net k) x y (explicit k) (literalOf (maximum net) true) (literalOf (latchVariable net k) false) (getD net (nextAt k) 0) (getD net (resetAt k) 0)
-      (own-small net is (latchVariable net k) (omega (arith, v .sum, v .small))) (within net is (getD net (nextAt k) 0) (v .nexts k h) .1) (reset-small net is k h) b
-      ∙ net-latch net is k y h)
+      (own-small net (outline-of net is) (latchVariable net k) (omega (arith, v .sum, v .small))) (within net (outline-of net is) (getD net (nextAt k) 0) (v .nexts k h) .1) (reset-small net (outline-of net is) k h) b
+      ∙ net-latch net (outline-of net is) k y h)
 
   gate-run : (f k x y : ℕ) → k < gateCount net → At s x (gateLine net k) y
       → gateRows s (inputCount net) (latchCount net) k f x ≡ row (pairAt net (5 + 2 * latchCount net + outputCount net + 2 * k)) f y
   unfolding gateLine
   gate-run f k x y h b =
       gate-complete s f x y (literalOf (gateVariable net k) false) (getD net (operandsAt net k) 0) (getD net (operandsAt net k + 1) 0)
-      (own-small net is (gateVariable net k) (omega (arith, v .sum, v .small))) (v .below k h) (v .order k h) b
+      (own-small net (outline-of net is) (gateVariable net k) (omega (arith, v .sum, v .small))) (v .below k h) (v .order k h) b
 
   gates-run : (f p q line : ℕ) → At s p (joined (gateLine net) (gateCount net)) q
       → rowsOf (gateRows s (inputCount net) (latchCount net)) (gateCount net) 0 line f p ≡ rows (joined (λ k. pairAt net (5 + 2 * latchCount net + outputCount net + 2 * k)) (gateCount net)) f q
@@ -71,7 +71,7 @@ module _ (s net : List ℕ) (explicit : ℕ → Bool) (is : isNetlist net ≡ tr
   body : (q : ℕ) → At s 0 (headerRow (maximum net) (inputCount net) (latchCount net) (outputCount net) (gateCount net)) q
       → fileRead s ≡ behind (maximum net ∷ inputCount net ∷ latchCount net ∷ outputCount net ∷ gateCount net ∷ []) (bodyOf s (maximum net) (inputCount net) (latchCount net) (outputCount net) (gateCount net) q)
   unfolding fileRead headerRow onHead
-  body q a = rw (net-head net is 97 s q a)
+  body q a = rw (net-head net (outline-of net is) 97 s q a)
 
   -- ---- a text that is a file up to the line of output k
   record Parts (k : ℕ) (more : List ℕ) : Type 0 where
@@ -120,7 +120,7 @@ module _ (s net : List ℕ) (explicit : ℕ → Bool) (is : isNetlist net ≡ tr
       let b =
       body-fault s (maximum net) (inputCount net) (latchCount net) (outputCount net) (gateCount net) [] _ (w .p0) 0 (w .p1) frees (w .p2) e (lineOfOutput net k)
       (inputs-run _ _ _ (w .inputs)) (latches-run _ _ _ (w .latches))
-      (outputs-fault net is s e k frees _ _ _ l (w .outputs) (bad frees _ (w .rest))) in
+      (outputs-fault net (outline-of net is) s e k frees _ _ _ l (w .outputs) (bad frees _ (w .rest))) in
       body (w .p0) (w .header) ∙ rw b
 
   -- ---- a text that is a file up to the gates: these are read, and then the end
@@ -131,7 +131,7 @@ module _ (s net : List ℕ) (explicit : ℕ → Bool) (is : isNetlist net ≡ tr
       let w = parts (outputCount net) more is-text in
       let b =
       body-made s (maximum net) (inputCount net) (latchCount net) (outputCount net) (gateCount net) [] _ _ (w .p0) 0 (w .p1) frees (w .p2) frees (w .p3)
-      (inputs-run _ _ _ (w .inputs)) (latches-run _ _ _ (w .latches)) (outputs-run net is s frees _ _ _ (w .outputs)) in
+      (inputs-run _ _ _ (w .inputs)) (latches-run _ _ _ (w .latches)) (outputs-run net (outline-of net is) s frees _ _ _ (w .outputs)) in
       body (w .p0) (w .header) ∙ rw (b, then (w .p3) (w .rest))
 
   -- the line of gate k has a fault

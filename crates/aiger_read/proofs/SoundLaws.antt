@@ -15,7 +15,7 @@ use Rattle.aiger.specs.Format.{inputLine, latchLine, outputLine, gateLine, file
 use Rattle.aiger_lines.specs.Fields.{fieldsOf}
 use Rattle.aiger_lines.proofs.PlaceLaws.{At, at-join, at-joined, whole-at}
 use Rattle.aiger_lines.proofs.TextLaws.{OutputRead, misformed, output-sound}
-use Rattle.aiger_lines.proofs.NetLaws.{Laid, Says, laid-netlist}
+use Rattle.aiger_lines.proofs.NetLaws.{Laid, Says, Gates, laid-netlist}
 use Rattle.aiger_read.specs.Claims.{IsFile}
 use Rattle.aiger_read.proofs.TextLaws.{InputRead, LatchRead, GateRead, input-sound, latch-sound, gate-sound}
 use Rattle.aiger_read.proofs.BodyLaws.{Body}
@@ -85,15 +85,20 @@ module _
     first-free : b .latches .F 0 ≡ 0
     first-free = b .latches .first-free ∙ sym (b .inputs .last-free) ∙ constant (b .inputs .F) (inputCount net) (λ k h. input-step k h .free) ∙ b .inputs .first-free
 
-    says : Says net (b .latches .N) (b .outputs .N) (b .gates .N) (b .latches .F)
+    says : Says net (b .latches .N) (b .outputs .N) (b .latches .F)
     says =
         record {
           start = first-free;
           latches = λ k h. latch-step k h .says;
           outputs = λ k h. output-step k h .within;
+        }
+
+    gates : Gates net (b .gates .N)
+    gates =
+        record {
           below = λ k h. gate-step k h .below;
           order = λ k h. gate-step k h .order;
         }
 
     pub is-file : IsFile s net
-    is-file = record { netlist = laid-netlist net ok t says; exact = t .size; explicit = explicit; is = text }
+    is-file = record { netlist = laid-netlist net ok t says gates; exact = t .size; explicit = explicit; is = text }

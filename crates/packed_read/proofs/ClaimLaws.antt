@@ -15,7 +15,7 @@ use Rattle.text.specs.Writer.{joined}
 use Rattle.netlist.specs.Layout.{maximum, inputCount, latchCount, outputCount, gateCount, sizeOf, latchVariable, gateVariable}
 use Rattle.netlist.specs.Literals.{literalOf}
 use Rattle.netlist.specs.Valid.{headerOk, freeCount, isNetlist}
-use Rattle.netlist.proofs.ValidLaws.{valid}
+use Rattle.netlist.proofs.ValidLaws.{valid, outline-of}
 use Rattle.aiger.specs.Rows.{line, literalRow}
 use Rattle.aiger.specs.Format.{outputLine}
 use Rattle.aiger.proofs.FormatLaws.{trimmed-size, trimmed-length, trimmed-netlist}
@@ -240,7 +240,7 @@ module _ (net buf : List ℕ) (explicit : ℕ → Bool) (k : ℕ) (is : isNetlis
 
   -- the literal of gate k, in three bytes
   gate-small : k < gateCount net → literalOf (gateVariable net k) false < 100000
-  gate-small l = let v = valid net is in own-small net is (gateVariable net k) (omega (arith, v .sum, v .small))
+  gate-small l = let v = valid net is in own-small net (outline-of net is) (gateVariable net k) (omega (arith, v .sum, v .small))
 
   first-limits : (d : ℕ) (more : List ℕ) → k < gateCount net → d < 2097152 → (d ≡ 0) ⊎ (literalOf (gateVariable net k) false < d) → length (toGate net explicit k ++ (run d ++ more)) ≤ 65536
       → Refuses (toGate net explicit k ++ (run d ++ more)) buf (FaultyRun OutOfLimits)

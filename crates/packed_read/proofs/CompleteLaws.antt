@@ -10,7 +10,7 @@ use Rattle.text.specs.Writer.{joined}
 use Rattle.netlist.specs.Layout.{maximum, inputCount, latchCount, outputCount, gateCount, nextAt, resetAt, operandsAt, sizeOf, latchVariable, gateVariable}
 use Rattle.netlist.specs.Literals.{literalOf}
 use Rattle.netlist.specs.Valid.{freeCount, isNetlist}
-use Rattle.netlist.proofs.ValidLaws.{Valid, valid}
+use Rattle.netlist.proofs.ValidLaws.{Valid, valid, outline-of}
 use Rattle.aiger.specs.Format.{outputLine}
 use Rattle.packed.specs.Format.{packedHeader, packedLatch, packedGate, packedWith}
 use Rattle.aiger_lines.specs.declared.Fault.{Fault}
@@ -52,14 +52,14 @@ module _ (s net : List ℕ) (explicit : ℕ → Bool) (is : isNetlist net ≡ tr
   unfolding packedLatch
   latch-run k x y h b =
       latch-is s (freeCount net k) x y (explicit k) (literalOf (maximum net) true) (literalOf (latchVariable net k) false) (getD net (nextAt k) 0) (getD net (resetAt k) 0)
-      (within net is (getD net (nextAt k) 0) (v .nexts k h) .1) (reset-small net is k h) b
-      ∙ net-latch net is k y h
+      (within net (outline-of net is) (getD net (nextAt k) 0) (v .nexts k h) .1) (reset-small net (outline-of net is) k h) b
+      ∙ net-latch net (outline-of net is) k y h
 
   gate-run : (f k x y : ℕ) → k < gateCount net → At s x (packedGate net k) y → gateRows s (inputCount net) (latchCount net) k f x ≡ row (gatePair k) f y
   unfolding packedGate
   gate-run f k x y h b =
       gate-complete s f x y (literalOf (gateVariable net k) false) (getD net (operandsAt net k) 0) (getD net (operandsAt net k + 1) 0)
-      (omega (arith, own-small net is (gateVariable net k) (omega (arith, v .sum, v .small)))) (v .below k h) (v .order k h) b
+      (omega (arith, own-small net (outline-of net is) (gateVariable net k) (omega (arith, v .sum, v .small)))) (v .below k h) (v .order k h) b
 
   -- ---- a text that is a file up to latch k
   record Parts (k : ℕ) (more : List ℕ) : Type 0 where
@@ -79,7 +79,7 @@ module _ (s net : List ℕ) (explicit : ℕ → Bool) (is : isNetlist net ≡ tr
       record {
         p0 = 0 + length h;
         p1 = 0 + length (h ++ t);
-        header = rw (net-head net is 105 s (0 + length h) (b .0));
+        header = rw (net-head net (outline-of net is) 105 s (0 + length h) (b .0));
         latches = b .1;
         rest = a .1;
       }
@@ -122,7 +122,7 @@ module _ (s net : List ℕ) (explicit : ℕ → Bool) (is : isNetlist net ≡ tr
       (λ p a.
       let w = at-split (joined (outputLine net) k) more a in
       outputs-faulty s (maximum net) (inputCount net) (latchCount net) (outputCount net) (gateCount net) p frees e (latchCount net + 2 + k)
-      (outputs-fault net is s e k frees p (p + length (joined (outputLine net) k)) (latchCount net + 2) l (w .0) (bad frees _ (w .1))))
+      (outputs-fault net (outline-of net is) s e k frees p (p + length (joined (outputLine net) k)) (latchCount net + 2) l (w .0) (bad frees _ (w .1))))
 
   -- ---- up to the gates: these are read, and then the end
   up-to-gates : (more : List ℕ) (x : Rows) → s ≡ toOutput net explicit (outputCount net) ++ more
@@ -134,7 +134,7 @@ module _ (s net : List ℕ) (explicit : ℕ → Bool) (is : isNetlist net ≡ tr
       let w = at-split (joined (outputLine net) (outputCount net)) more a in
       let q = p + length (joined (outputLine net) (outputCount net)) in
       outputs-made s (maximum net) (inputCount net) (latchCount net) (outputCount net) (gateCount net) p frees (joined outputOne (outputCount net)) frees q
-      (outputs-run net is s frees p q (latchCount net + 2) (w .0))
+      (outputs-run net (outline-of net is) s frees p q (latchCount net + 2) (w .0))
       ∙ rw (then q (w .1)))
 
   to-gates : (k : ℕ) (more : List ℕ) → s ≡ toGate net explicit k ++ more → s ≡ toOutput net explicit (outputCount net) ++ (joined (packedGate net) k ++ more)

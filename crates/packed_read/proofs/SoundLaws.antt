@@ -17,7 +17,7 @@ use Rattle.aiger_lines.proofs.HeadLaws.{HeadAt, head-at}
 use Rattle.aiger_lines.proofs.TextLaws.{OutputRead, misformed, output-sound}
 use Rattle.aiger_lines.proofs.RunLaws.{head-rows}
 use Rattle.aiger_lines.proofs.LayoutLaws.{netOf}
-use Rattle.aiger_lines.proofs.NetLaws.{Laid, Says, laid, laid-netlist}
+use Rattle.aiger_lines.proofs.NetLaws.{Laid, Says, Gates, laid, laid-netlist}
 use Rattle.packed_read.specs.Files.{bodyOf, packedRead}
 use Rattle.packed_read.specs.Claims.{IsPacked}
 use Rattle.packed_read.proofs.RunLaws.{EachByte}
@@ -51,12 +51,17 @@ module _ (s : List ℕ) (bytes : EachByte s) (m i l o a q : ℕ) (ks : List ℕ)
         gates = λ k h. gate-step k h .two;
       }
 
-  says : Says net (b .latches .N) (b .outputs .N) (b .gates .N) (b .latches .F)
+  says : Says net (b .latches .N) (b .outputs .N) (b .latches .F)
   says =
       record {
         start = b .latches .first-free;
         latches = λ k h. latch-step k h .says;
         outputs = λ k h. output-step k h .within;
+      }
+
+  gates : Gates net (b .gates .N)
+  gates =
+      record {
         below = λ k h. gate-step k h .below;
         order = λ k h. gate-step k h .order;
       }
@@ -92,7 +97,7 @@ module _ (s : List ℕ) (bytes : EachByte s) (m i l o a q : ℕ) (ks : List ℕ)
     is-packed : (ns : List ℕ) → ns ≡ m ∷ i ∷ l ∷ o ∷ a ∷ ks → IsPacked s ns
     is-packed ns n =
         let all : ns ≡ net = n ∙ ap (λ (x : List ℕ). m ∷ i ∷ l ∷ o ∷ a ∷ x) (b .numbers ∙ ap₂ _++_ (b .latches .numbers) (ap₂ _++_ (b .outputs .numbers) (b .gates .numbers))) in
-        rw all (record { netlist = laid-netlist net (h .ok) t says; exact = t .size; explicit = explicit; is = text })
+        rw all (record { netlist = laid-netlist net (h .ok) t says gates; exact = t .size; explicit = explicit; is = text })
 
 -- SOUND
 pub sound : (s ns : List ℕ) (free q : ℕ) → EachByte s → packedRead s ≡ rows ns free q → IsPacked s ns

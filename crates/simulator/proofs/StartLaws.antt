@@ -16,7 +16,7 @@ use Rattle.netlist.specs.Lanes.{lane, each, numberOf, wordOf}
 use Rattle.netlist.specs.Valid.{isFree, freeCount}
 use Rattle.netlist.proofs.EachLaws.{each-at}
 use Rattle.netlist.proofs.LaneLaws.{lane-word, word-same}
-use Rattle.netlist.proofs.ValidLaws.{free-more, free-below}
+use Rattle.netlist.proofs.ValidLaws.{free-more, outline-of, free-below}
 use Rattle.calls.specs.declared.refusal.Cause.{Cause}
 use Rattle.calls.specs.declared.refusal.Tested.{Tested}
 use Rattle.calls.specs.declared.refusal.Tested.the-variants.{Passed, Failed}
@@ -221,5 +221,5 @@ module _ (net latches : List ℕ) (t : Tally) where
       words-free : startCheck net (length latches) ≡ Passed → (k : ℕ) → k < latchCount net → isFree net k ≡ true
           → (freeCount net k < 6) × (getD (startOf net latches t .latches) k 0 ≡ freeWord (freeCount net k))
       words-free e k l f =
-          let b = free-below net (start-passed net (length latches) _ refl e .netlist) k l f in
+          let b = free-below net (outline-of net (start-passed net (length latches) _ refl e .netlist)) k l f in
           (b, word-starts e k l ∙ word-same (startBit net k) (λ n. lane (freeCount net k) n) (λ n h. bit-free net k n f) ∙ sym (free-word (freeCount net k) b))

@@ -1,7 +1,7 @@
 -- How long the lines of small numbers are, and that no file of a netlist has more than 65,536 bytes. Assumes nothing.
 use mathlib.Core.Path.{_≡_}
 use mathlib.Core.Bool.{Bool, true, false, not, cond, _&&_}
-use mathlib.Core.List.{List, [], _∷_}
+use mathlib.Core.List.{List, [], _∷_, _++_}
 use mathlib.Core.Logic.{⊎-elim}
 use Prim.Native.Nat.{ℕ, zero, suc, _+_, _*_, _<_, _≤_}
 use native.Mathlib.Nat.{mul-suc}
@@ -13,9 +13,9 @@ use Rattle.text.specs.Writer.{joined}
 use Rattle.text.proofs.NumberLaws.{digits-length}
 use Rattle.netlist.specs.Layout.{maximum, inputCount, latchCount, outputCount, gateCount, nextAt, resetAt, outputAt, operandsAt, inputVariable, latchVariable, gateVariable}
 use Rattle.netlist.specs.Literals.{literalOf, variableOf}
-use Rattle.netlist.specs.Valid.{isNetlist}
+use Rattle.netlist.specs.Valid.{isOutline, isNetlist}
 use Rattle.netlist.proofs.LiteralLaws.{literal-plain}
-use Rattle.netlist.proofs.ValidLaws.{valid}
+use Rattle.netlist.proofs.ValidLaws.{Outline, outline, valid, outline-of}
 use Rattle.aiger.specs.Rows.{line, headerRow, literalRow, latchRow, gateRow}
 use Rattle.aiger.specs.Format.{inputLine, latchLine, outputLine, gateLine, fileWith}
 
@@ -64,27 +64,29 @@ joined-length f c zero h = omega arith
 joined-length f c (suc n) h =
     rw (length-append (joined f n) (f n), mul-suc c n) (omega (arith, joined-length f c n (λ k l. h k (omega arith)), h n (omega arith)))
 
--- ---- the lines of a netlist
+-- ---- the lines of an outline
 
-module _ (net : List ℕ) (e : isNetlist net ≡ true) where
+module _ (net : List ℕ) (e : isOutline net ≡ true) where
+  v : Outline net
+  v = outline net e
+
   -- a literal of the netlist has at most four digits
   pub small : (lit : ℕ) → variableOf lit ≤ maximum net → lit < 10000
   unfolding variableOf
-  small lit h = let v = valid net e in omega arith
+  small lit h = omega (arith, v .small)
 
   -- and so has the literal of a variable of it
   pub own : (var : ℕ) → var ≤ maximum net → literalOf var false < 10000
-  own var h = let v = valid net e in omega (arith, literal-plain var)
+  own var h = omega (arith, v .small, literal-plain var)
 
   input-length : (k : ℕ) → k < inputCount net → length (inputLine k) ≤ 5
   unfolding inputLine
-  input-length k h = let v = valid net e in literal-length (literalOf (inputVariable k) false) (own (inputVariable k) (omega arith))
+  input-length k h = literal-length (literalOf (inputVariable k) false) (own (inputVariable k) (omega (arith, v .sum)))
 
   latch-line-length : (explicit : ℕ → Bool) (k : ℕ) → k < latchCount net → length (latchLine net explicit k) ≤ 15
   unfolding latchLine
   latch-line-length explicit k h =
-      let v = valid net e in
-      let o = own (latchVariable net k) (omega arith) in
+      let o = own (latchVariable net k) (omega (arith, v .sum)) in
       let next = getD net (nextAt k) 0 in
       let reset = getD net (resetAt k) 0 in
       let r : reset < 10000 = ⊎-elim (λ s. omega arith) (λ s. omega arith) (v .resets k h) in
@@ -92,13 +94,33 @@ module _ (net : List ℕ) (e : isNetlist net ≡ true) where
 
   pub output-length : (k : ℕ) → k < outputCount net → length (outputLine net k) ≤ 5
   unfolding outputLine
-  output-length k h = let lit = getD net (outputAt net k) 0 in literal-length lit (small lit (valid net e .outputs k h))
+  output-length k h = let lit = getD net (outputAt net k) 0 in literal-length lit (small lit (v .outputs k h))
 
+  -- all lines, with any text of at most 15 bytes for each gate, have at most 65,536 bytes
+  pub outline-length : (explicit : ℕ → Bool) (gates : List ℕ) → length gates ≤ 15 * gateCount net
+      → length (headerRow (maximum net) (inputCount net) (latchCount net) (outputCount net) (gateCount net)
+      ++ (joined inputLine (inputCount net) ++ (joined (latchLine net explicit) (latchCount net) ++ (joined (outputLine net) (outputCount net) ++ gates)))) ≤ 65536
+  outline-length explicit gates h =
+      let sum = v .sum in
+      let most = v .small in
+      let inputs = v .few in
+      let outputs = v .most in
+      simp length-append (omega (
+        arith,
+        header-length (maximum net) (inputCount net) (latchCount net) (outputCount net) (gateCount net) (omega arith) (omega arith) (omega arith) (omega arith) (omega arith),
+        joined-length inputLine 5 (inputCount net) input-length,
+        joined-length (latchLine net explicit) 15 (latchCount net) (latch-line-length explicit),
+        joined-length (outputLine net) 5 (outputCount net) output-length,
+      ))
+
+-- ---- the lines of a netlist
+
+module _ (net : List ℕ) (e : isNetlist net ≡ true) where
   gate-line-length : (k : ℕ) → k < gateCount net → length (gateLine net k) ≤ 15
   unfolding gateLine
   gate-line-length k h =
       let v = valid net e in
-      let o = own (gateVariable net k) (omega arith) in
+      let o = own net (outline-of net e) (gateVariable net k) (omega arith) in
       let below = v .below k h in
       let order = v .order k h in
       gate-length (literalOf (gateVariable net k) false) (getD net (operandsAt net k) 0) (getD net (operandsAt net k + 1) 0) o (omega arith) (omega arith)
@@ -106,13 +128,4 @@ module _ (net : List ℕ) (e : isNetlist net ≡ true) where
   -- THE BOUND: with its resets written or not, a netlist's file has at most 65,536 bytes
   pub file-length : (explicit : ℕ → Bool) → length (fileWith net explicit) ≤ 65536
   unfolding fileWith
-  file-length explicit =
-      let v = valid net e in
-      simp length-append (omega (
-        arith,
-        header-length (maximum net) (inputCount net) (latchCount net) (outputCount net) (gateCount net) (omega arith) (omega arith) (omega arith) (omega arith) (omega arith),
-        joined-length inputLine 5 (inputCount net) input-length,
-        joined-length (latchLine net explicit) 15 (latchCount net) (latch-line-length explicit),
-        joined-length (outputLine net) 5 (outputCount net) output-length,
-        joined-length (gateLine net) 15 (gateCount net) gate-line-length,
-      ))
+  file-length explicit = outline-length net (outline-of net e) explicit (joined (gateLine net) (gateCount net)) (joined-length (gateLine net) 15 (gateCount net) gate-line-length)

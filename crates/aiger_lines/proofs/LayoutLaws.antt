@@ -112,7 +112,7 @@ module _ (net : List ℕ) where
   one-is : (n : ℕ) → n < length net → take 1 (drop n net) ≡ oneAt n
   one-is n h = rw (drop-cons net n 0 h)
 
-  pairs : (b n : ℕ) → b + 2 * n ≤ length net → joined (λ k. pairAt (b + 2 * k)) n ≡ take (2 * n) (drop b net)
+  pub pairs : (b n : ℕ) → b + 2 * n ≤ length net → joined (λ k. pairAt (b + 2 * k)) n ≡ take (2 * n) (drop b net)
   pairs b zero h = refl
   pairs b (suc n) h =
       let e : 2 * suc n ≡ 2 * n + 2 = omega arith in

@@ -1,9 +1,12 @@
 -- The limits of a header and of a latch, test by test. Assumes nothing.
-use mathlib.Core.Path.{_≡_, refl}
+use mathlib.Core.Path.{_≡_, refl, sym}
 use mathlib.Core.Bool.{Bool, true, false, _&&_, and-false}
 use mathlib.Core.List.{[], _∷_}
+use mathlib.Core.Logic.{_⊎_, inl, inr}
 use Prim.Native.Nat.{ℕ, _+_, _≤_, _<_}
 use native.Mathlib.Nat.{add-zero}
+use native.Mathlib.Omega.{arith}
+use native.Mathlib.Decide.{decLt}
 use borrow.Author.Tests.{le-leb, lt-leb, eq-eqb, ne-eqb, lt-ltb, le-ltb}
 use lib.Dec.{eqb}
 use Rattle.netlist.specs.Valid.{headerOk}
@@ -49,3 +52,15 @@ module _ (last lit free next reset q : ℕ) where
     pub says-own : 1 < reset → reset ≡ lit → free < 6 → row (next ∷ lit ∷ []) (free + 1) q ≡ latchSays last lit free next reset q
     unfolding latchSays
     says-own h e n = rw (le-leb next last fits, lt-leb reset 1 h, eq-eqb reset lit e, lt-ltb free 6 n, e)
+
+  -- numbers that are no latch's
+  pub says-none : (last < next) ⊎ ((1 < reset) × ((reset ≡ lit → ⊥) ⊎ (6 ≤ free))) → latchSays last lit free next reset q ≡ fault OutOfLimits
+  says-none h = sym (go h)
+    where
+      past : (1 < reset) × ((reset ≡ lit → ⊥) ⊎ (6 ≤ free)) → next ≤ last → fault OutOfLimits ≡ latchSays last lit free next reset q
+      past (k, inl n) l = says-other l k n
+      past (k, inr n) l = says-full l k n
+
+      go : (last < next) ⊎ ((1 < reset) × ((reset ≡ lit → ⊥) ⊎ (6 ≤ free))) → fault OutOfLimits ≡ latchSays last lit free next reset q
+      go (inl k) = says-past k
+      go (inr k) = elim (decLt last next) [ yes l ↦ says-past l | no l ↦ past k (omega arith) ]

@@ -42,7 +42,7 @@ head-rows R (heading m i l o a r) body ns f q h k = behind-rows R (m ∷ i ∷ l
 head-rows R (misheaded e) body ns f q h k = absurd (failed-rows h)
 
 -- the first text of several
-joined-front : (N : ℕ → List ℕ) (n : ℕ) → joined N (suc n) ≡ N 0 ++ joined (λ k. N (suc k)) n
+pub joined-front : (N : ℕ → List ℕ) (n : ℕ) → joined N (suc n) ≡ N 0 ++ joined (λ k. N (suc k)) n
 joined-front N zero = sym (append-nil (N 0))
 joined-front N (suc n) = ap (λ (l : List ℕ). l ++ N (suc n)) (joined-front N n) ∙ append-assoc (N 0) (joined (λ k. N (suc k)) n) (N (suc n))
 

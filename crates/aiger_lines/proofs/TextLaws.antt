@@ -2,18 +2,18 @@
 use mathlib.Core.Path.{_≡_, refl, sym, ap, subst}
 use mathlib.Core.Bool.{Bool, true, false, cond, _&&_, _||_}
 use mathlib.Core.List.{List, [], _∷_}
-use Prim.Native.Nat.{ℕ, _+_, _≤_, _<_}
+use Prim.Native.Nat.{ℕ, suc, _+_, _≤_, _<_}
 use native.Mathlib.Omega.{arith}
 use borrow.Author.Tests.{leb-true, le-leb, lt-leb}
 use lib.Dec.{eqb, leb, ltb}
 use lib.ListN.{length, getD}
 use Rattle.netlist.proofs.EachLaws.{both}
-use Rattle.aiger.specs.Rows.{literalRow}
+use Rattle.aiger.specs.Rows.{line, literalRow}
 use Rattle.aiger_lines.specs.declared.Fault.{Fault}
 use Rattle.aiger_lines.specs.declared.Fault.the-variants.{WrongShape, OutOfLimits}
-use Rattle.aiger_lines.specs.Fields.{Fields, wrong, fields, fieldsOf}
+use Rattle.aiger_lines.specs.Fields.{Fields, wrong, fields, fieldsOf, eitherOf}
 use Rattle.aiger_lines.specs.Lines.{Row, row, fault, judged, latchSays, outputAt}
-use Rattle.aiger_lines.proofs.LineLaws.{fields-length}
+use Rattle.aiger_lines.proofs.LineLaws.{fields-length, or-more}
 use Rattle.aiger_lines.proofs.PlaceLaws.{At}
 use Rattle.aiger_lines.proofs.FieldLaws.{lineOf, Small, fields-stand, stand-fields}
 
@@ -123,15 +123,45 @@ judged-none s n p g none = go (fieldsOf s n p) refl
     go wrong e = refl
     go (fields vs r) e = absurd (none vs r e)
 
+-- nor of one more
+pub either-none : (s : List ℕ) (n p : ℕ) (g : List ℕ → ℕ → Row) → ((vs : List ℕ) (r : ℕ) → fieldsOf s n p ≡ fields vs r → ⊥)
+    → ((vs : List ℕ) (r : ℕ) → fieldsOf s (suc n) p ≡ fields vs r → ⊥) → judged (eitherOf s n p) g ≡ fault WrongShape
+either-none s n p g none nor = go (fieldsOf s n p) refl
+  where
+    go : (x : Fields) → fieldsOf s n p ≡ x → judged (eitherOf s n p) g ≡ fault WrongShape
+    go wrong e = rw (or-more s n p e) (judged-none s (suc n) p g nor)
+    go (fields vs r) e = absurd (none vs r e)
+
+-- where no line of one number stands, of two or of three, none is read
+module _ (s : List ℕ) (p : ℕ) where
+  pub no-one : ((v r : ℕ) → v < 100000 → At s p (line v []) r → ⊥) → (vs : List ℕ) (r : ℕ) → fieldsOf s 0 p ≡ fields vs r → ⊥
+  unfolding Small lineOf
+  no-one none vs r e =
+      let t = fields-stand s 0 p vs r e in
+      let is = one vs (fields-length s 0 p vs r e) in
+      none (getD vs 0 0) r (subst Small is (t .small) .0) (subst (λ (l : List ℕ). At s p (lineOf l) r) is (t .at))
+
+  pub no-two : ((v w r : ℕ) → (v < 100000) × (w < 100000) → At s p (line v (w ∷ [])) r → ⊥) → (vs : List ℕ) (r : ℕ) → fieldsOf s 1 p ≡ fields vs r → ⊥
+  unfolding Small lineOf
+  no-two none vs r e =
+      let t = fields-stand s 1 p vs r e in
+      let is = two vs (fields-length s 1 p vs r e) in
+      let few = subst Small is (t .small) in
+      none (getD vs 0 0) (getD vs 1 0) r (few .0, few .1 .0) (subst (λ (l : List ℕ). At s p (lineOf l) r) is (t .at))
+
+  pub no-three : ((v w x r : ℕ) → (v < 100000) × (w < 100000) × (x < 100000) → At s p (line v (w ∷ x ∷ [])) r → ⊥) → (vs : List ℕ) (r : ℕ) → fieldsOf s 2 p ≡ fields vs r → ⊥
+  unfolding Small lineOf
+  no-three none vs r e =
+      let t = fields-stand s 2 p vs r e in
+      let is = three vs (fields-length s 2 p vs r e) in
+      let few = subst Small is (t .small) in
+      none (getD vs 0 0) (getD vs 1 0) (getD vs 2 0) r (few .0, few .1 .0, few .1 .1 .0) (subst (λ (l : List ℕ). At s p (lineOf l) r) is (t .at))
+
 module _ (s : List ℕ) (f p last : ℕ) where
   pub output-above : (v q : ℕ) → last < v → v < 100000 → At s p (literalRow v) q → outputAt s last f p ≡ fault OutOfLimits
   unfolding outputAt literalRow judged Small
   output-above v q h m a = rw (stand-fields s [] v p q (m, tt) a, lt-leb v last h)
 
   pub output-wrong : ((v r : ℕ) → v < 100000 → At s p (literalRow v) r → ⊥) → outputAt s last f p ≡ fault WrongShape
-  unfolding outputAt Small
-  output-wrong none =
-      judged-none s 0 p _
-      (λ vs r e.
-      let few = subst Small (one vs (fields-length s 0 p vs r e)) (fields-stand s 0 p vs r e .small) in
-      none (getD vs 0 0) r (few .0) (one-at s p vs r e))
+  unfolding outputAt literalRow
+  output-wrong none = judged-none s 0 p _ (no-one s p none)

@@ -15,7 +15,7 @@ use Rattle.text.proofs.NumberLaws.{digits-small, digits-more, digits-length, di
 use Rattle.netlist.specs.Layout.{maximum, inputCount, latchCount, outputCount, gateCount, nextAt, resetAt, operandsAt, latchVariable, gateVariable}
 use Rattle.netlist.specs.Literals.{literalOf}
 use Rattle.netlist.specs.Valid.{isFree, freeCount, isNetlist}
-use Rattle.netlist.proofs.ValidLaws.{valid}
+use Rattle.netlist.proofs.ValidLaws.{valid, outline-of}
 use Rattle.aiger.specs.Rows.{line}
 use Rattle.aiger.specs.Format.{outputLine}
 use Rattle.aiger.proofs.LengthLaws.{line-one, line-two, joined-length, small, own, output-length}
@@ -65,11 +65,11 @@ module _ (net : List ℕ) (e : isNetlist net ≡ true) where
   unfolding packedLatch isFree
   packed-latch-length explicit k h =
       let v = valid net e in
-      let o = own net e (latchVariable net k) (omega arith) in
+      let o = own net (outline-of net e) (latchVariable net k) (omega arith) in
       let next = getD net (nextAt k) 0 in
       let reset = getD net (resetAt k) 0 in
       let r : reset < 10000 = ⊎-elim (λ s. omega arith) (λ s. omega arith) (v .resets k h) in
-      latch-length (explicit k) next reset (small net e next (v .nexts k h)) r
+      latch-length (explicit k) next reset (small net (outline-of net e) next (v .nexts k h)) r
 
   packed-latches-length : (explicit : ℕ → Bool) (n : ℕ) → n ≤ latchCount net → length (joined (packedLatch net explicit) n) ≤ 7 * n + 3 * freeCount net n
   unfolding freeCount
@@ -82,7 +82,7 @@ module _ (net : List ℕ) (e : isNetlist net ≡ true) where
   unfolding packedGate
   packed-gate-length k h =
       let v = valid net e in
-      let o = own net e (gateVariable net k) (omega arith) in
+      let o = own net (outline-of net e) (gateVariable net k) (omega arith) in
       let below = v .below k h in
       gate-length (literalOf (gateVariable net k) false) (getD net (operandsAt net k) 0) (getD net (operandsAt net k + 1) 0) (omega arith) (omega arith)
 
@@ -97,6 +97,6 @@ module _ (net : List ℕ) (e : isNetlist net ≡ true) where
         arith,
         header-length (maximum net) (inputCount net) (latchCount net) (outputCount net) (gateCount net) (omega arith) (omega arith) (omega arith),
         packed-latches-length explicit (latchCount net) (omega arith),
-        joined-length (outputLine net) 5 (outputCount net) (output-length net e),
+        joined-length (outputLine net) 5 (outputCount net) (output-length net (outline-of net e)),
         joined-length (packedGate net) 4 (gateCount net) packed-gate-length,
       ))

@@ -2,10 +2,9 @@
 use mathlib.Core.Path.{_≡_, refl, sym, ap, _∙_, subst}
 use mathlib.Core.Bool.{Bool, true, false, cond, not, _&&_, and-false}
 use mathlib.Core.List.{List, [], _∷_}
-use mathlib.Core.Logic.{_⊎_, inl, inr}
+use mathlib.Core.Logic.{_⊎_}
 use Prim.Native.Nat.{ℕ, _+_, _-_, _≤_, _<_}
 use native.Mathlib.Omega.{arith}
-use native.Mathlib.Decide.{decLt}
 use borrow.Author.Tests.{leb-true, eqb-true}
 use lib.Dec.{eqb, leb}
 use lib.ListN.{length, getD, List·getD-eq-default}
@@ -17,10 +16,10 @@ use Rattle.aiger_lines.specs.declared.Fault.the-variants.{WrongShape, OutOfLimi
 use Rattle.aiger_lines.specs.Fields.{Fields, wrong, fields, fieldsOf, eitherOf}
 use Rattle.aiger_lines.specs.Lines.{row, fault, judged, latchSays}
 use Rattle.aiger_lines.proofs.LineLaws.{fields-length, or-fewer, or-more}
-use Rattle.aiger_lines.proofs.LimitLaws.{says-past, says-other, says-full}
+use Rattle.aiger_lines.proofs.LimitLaws.{says-none}
 use Rattle.aiger_lines.proofs.PlaceLaws.{At, at-join, at-split}
 use Rattle.aiger_lines.proofs.FieldLaws.{lineOf, Small, fields-stand, stand-fields, not-fewer}
-use Rattle.aiger_lines.proofs.TextLaws.{LatchSays, misformed, fault-row, judged-row, cond-row, judged-none, one, two, says-sound}
+use Rattle.aiger_lines.proofs.TextLaws.{LatchSays, misformed, fault-row, judged-row, cond-row, either-none, no-one, no-two, one, two, says-sound}
 use Rattle.packed_read.specs.Runs.{Run, took, broken, runAt}
 use Rattle.packed_read.specs.Lines.{latchAt, onRun, secondAt, gateAt}
 use Rattle.packed_read.proofs.RunLaws.{BytesFrom, run-sound, run-complete}
@@ -156,15 +155,7 @@ module _ (s : List ℕ) (f p q : ℕ) where
 
     -- those that do not fit
     pub latch-above : (last < next) ⊎ ((1 < reset) × ((reset ≡ lit → ⊥) ⊎ (6 ≤ f))) → latchAt s last lit f p ≡ fault OutOfLimits
-    latch-above h = latch-is ∙ sym (go h)
-      where
-        past : (1 < reset) × ((reset ≡ lit → ⊥) ⊎ (6 ≤ f)) → next ≤ last → fault OutOfLimits ≡ latchSays last lit f next reset q
-        past (k, inl n) l = says-other last lit f next reset q l k n
-        past (k, inr n) l = says-full last lit f next reset q l k n
-
-        go : (last < next) ⊎ ((1 < reset) × ((reset ≡ lit → ⊥) ⊎ (6 ≤ f))) → fault OutOfLimits ≡ latchSays last lit f next reset q
-        go (inl k) = says-past last lit f next reset q k
-        go (inr k) = elim (decLt last next) [ yes l ↦ says-past last lit f next reset q l | no l ↦ past k (omega arith) ]
+    latch-above h = latch-is ∙ says-none last lit f next reset q h
 
   pub gate-complete : (lit r0 r1 : ℕ) → lit < 2097152 → r0 < lit → r1 ≤ r0 → At s p (gateRuns lit r0 r1) q → gateAt s lit f p ≡ row (r0 ∷ r1 ∷ []) f q
   unfolding gateRuns
@@ -181,19 +172,5 @@ module _ (s : List ℕ) (f p q : ℕ) where
 
 pub latch-wrong : (s : List ℕ) (f p last lit : ℕ) → ((v r : ℕ) → v < 100000 → At s p (line v []) r → ⊥)
     → ((v w r : ℕ) → (v < 100000) × (w < 100000) → At s p (line v (w ∷ [])) r → ⊥) → latchAt s last lit f p ≡ fault WrongShape
-unfolding latchAt judged Small lineOf
-latch-wrong s f p last lit none nor = go (fieldsOf s 0 p) refl
-  where
-    go : (x : Fields) → fieldsOf s 0 p ≡ x → judged (eitherOf s 0 p) (λ vs q. latchSays last lit f (getD vs 0 0) (getD vs 1 0) q) ≡ fault WrongShape
-    go (fields vs r) e =
-        let t = fields-stand s 0 p vs r e in
-        let is = one vs (fields-length s 0 p vs r e) in
-        absurd (none (getD vs 0 0) r (subst Small is (t .small) .0) (subst (λ (l : List ℕ). At s p (lineOf l) r) is (t .at)))
-    go wrong e =
-        rw (or-more s 0 p e)
-        (judged-none s 1 p _
-        (λ vs r h.
-        let t = fields-stand s 1 p vs r h in
-        let is = two vs (fields-length s 1 p vs r h) in
-        let few = subst Small is (t .small) in
-        nor (getD vs 0 0) (getD vs 1 0) r (few .0, few .1 .0) (subst (λ (l : List ℕ). At s p (lineOf l) r) is (t .at))))
+unfolding latchAt
+latch-wrong s f p last lit none nor = either-none s 0 p _ (no-one s p none) (no-two s p nor)

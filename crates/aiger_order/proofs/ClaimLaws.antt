@@ -1,0 +1,139 @@
+-- THE CLAIM: of loose numbers the one netlist is stored where there is room for it, unless gates wait on each other.
+-- Assumes nothing.
+use mathlib.Core.Path.{_≡_, refl, _∙_}
+use mathlib.Core.Bool.{true, false}
+use mathlib.Core.List.{List, _++_}
+use mathlib.Core.Logic.{inl, inr}
+use Prim.Native.Nat.{ℕ, suc, _+_, _*_, _/_, _%_, _<_, _≤_}
+use native.Mathlib.Decide.{ℕ-discrete}
+use native.Mathlib.Nat.{add-zero}
+use native.Mathlib.Omega.{arith}
+use borrow.Author.Tests.{le-leb, lt-leb}
+use lib.ListN.{length, getD, drop}
+use Rattle.netlist.specs.Layout.{maximum, latchCount, outputCount, gateCount, nextAt, resetAt, outputAt, operandsAt, sizeOf, latchVariable}
+use Rattle.netlist.specs.Literals.{literalOf}
+use Rattle.netlist.specs.Valid.{isFree, freeCount, isOutline}
+use Rattle.netlist.proofs.LiteralLaws.{literal-plain, literal-inverted}
+use Rattle.netlist.proofs.ValidLaws.{outline}
+use Rattle.netlist.proofs.AigerLaws.{means, outline-ok}
+use Rattle.gate_order.specs.Loose.{isLoose}
+use Rattle.gate_order.specs.Order.{PlacedAs, Stuck}
+use Rattle.gate_order.specs.Placing.{Placing, ordered, waiting, placingOf}
+use Rattle.gate_order.specs.Renumbered.{renumbered}
+use Rattle.gate_order.proofs.LooseLaws.{Within, loose-outline, loose-within, loose-ok, netlist-loose}
+use Rattle.gate_order.proofs.OrderLaws.{placing-order, placing-stuck, order-placing, not-both}
+use Rattle.gate_order.proofs.MeaningLaws.{literal-within, latch-ok, placed-lowest, placed-netlist, placed-meaning}
+use Rattle.gate_order.proofs.RenumberedLaws.{renumbered-placed, placed-renumbered, one-placed, netlist-placed}
+use Rattle.aiger_order.specs.declared.Placing.the-variants.{Placed, Waiting, ShortBuffer, NotLoose}
+use Rattle.aiger_order.specs.Place.{placeEnd, placeAs, placeOf}
+use Rattle.aiger_order.specs.Claims.{Outlined, OperandsWithin, PlaceMeans}
+
+-- ---- the limits in digits
+module _ (loose : List ℕ) where
+  outlined : isOutline loose ≡ true → Outlined loose
+  outlined is =
+      let o = outline loose is in
+      let m = literal-inverted (maximum loose) in
+      record {
+        long = o .long;
+        sum = o .sum;
+        most = o .small;
+        inputs = (o .some, o .few);
+        outputs = (o .output, o .most);
+        output = λ k l. let h = literal-within (maximum loose) (getD loose (outputAt loose k) 0) (o .outputs k l) in omega arith;
+        next = λ k l. let h = literal-within (maximum loose) (getD loose (nextAt k) 0) (o .nexts k l) in omega arith;
+        reset = λ k l. elim (o .resets k l) [ inl h ↦ inl h | inr h ↦ inr (h ∙ literal-plain (latchVariable loose k)) ];
+        free = o .free;
+      }
+
+  outlined-is : Outlined loose → isOutline loose ≡ true
+  outlined-is o =
+      let m = literal-inverted (maximum loose) in
+      let n = o .long in
+      let i = o .inputs in
+      let t = o .outputs in
+      outline-ok loose (omega arith) (means loose .either _ _ _ _ _ (o .sum) (o .most) (i .0) (i .1) (t .0) (t .1)) n
+      (λ k l. let h = o .output k l in omega arith)
+      (λ k l. latch-ok loose k (let h = o .next k l in omega arith) (elim (o .reset k l) [
+        | inl h ↦ inl h
+        | inr h ↦ let e = literal-plain (latchVariable loose k) in inr (omega arith)
+      ]))
+      (o .free)
+
+  -- where operand j of all stands
+  abbrev operandAt : ℕ → ℕ
+  operandAt j = 5 + 2 * latchCount loose + outputCount loose + j
+
+  operands-each : ((k : ℕ) → k < gateCount loose → Within loose k) → OperandsWithin loose
+  operands-each w j l = elim (ℕ-discrete (j % 2) 0) [
+    | yes e ↦ at (operandsAt loose (j / 2)) (omega arith) (w (j / 2) (omega arith) .0)
+    | no d ↦ at (operandsAt loose (j / 2) + 1) (omega (arith, d)) (w (j / 2) (omega arith) .1)
+  ]
+    where
+      at : (i : ℕ) → i ≡ operandAt j → getD loose i 0 ≤ literalOf (maximum loose) true → getD loose (operandAt j) 0 ≤ 2 * maximum loose + 1
+      at i e h = rw (← e, ← (literal-inverted (maximum loose))) h
+
+  operands-both : OperandsWithin loose → (k : ℕ) → k < gateCount loose → Within loose k
+  operands-both w k l =
+      let second : operandsAt loose k + 1 ≡ operandAt (2 * k + 1) = omega arith in
+      rw (second, literal-inverted (maximum loose)) (w (2 * k) (omega arith), w (2 * k + 1) (omega arith))
+
+  free : (k : ℕ) → (freeCount loose 0 ≡ 0) × (getD loose (resetAt k) 0 ≤ 1 → freeCount loose (suc k) ≡ freeCount loose k)
+      × (1 < getD loose (resetAt k) 0 → freeCount loose (suc k) ≡ freeCount loose k + 1)
+  unfolding freeCount isFree
+  free k = (refl, (λ h. rw (le-leb (getD loose (resetAt k) 0) 1 h) (add-zero (freeCount loose k))), λ h. rw (lt-leb (getD loose (resetAt k) 0) 1 h))
+
+-- ---- the ends
+
+other : (loose buf : List ℕ) → isLoose loose ≡ false → placeOf loose buf ≡ placeEnd NotLoose buf
+unfolding placeOf
+other loose buf e = rw e
+
+module _ (loose : List ℕ) (is : isLoose loose ≡ true) where
+  module _ (net buf : List ℕ) (p : PlacedAs loose net) where
+    takes : length net ≤ length buf → placeOf loose buf ≡ placeEnd (Placed (length net)) (net ++ drop (length net) buf)
+    unfolding placeOf placeAs
+    takes h =
+        let s = p .size in
+        rw (is, order-placing loose (p .order) (p .ordered), le-leb (sizeOf loose) (length buf) (omega arith), s, ← (placed-renumbered loose net p))
+
+    short : length buf < length net → placeOf loose buf ≡ placeEnd ShortBuffer buf
+    unfolding placeOf placeAs
+    short h =
+        let s = p .size in
+        rw (is, order-placing loose (p .order) (p .ordered), lt-leb (sizeOf loose) (length buf) (omega arith))
+
+  -- the placing is an order of all gates, or some wait
+  either : (P : Type 0) → ((order : List ℕ) → placingOf loose ≡ ordered order → P) → ((order : List ℕ) → placingOf loose ≡ waiting order → P) → P
+  either P f g = go (placingOf loose) refl
+    where
+      go : (x : Placing) → placingOf loose ≡ x → P
+      go (ordered order) e = f order e
+      go (waiting order) e = g order e
+
+  waits : (buf : List ℕ) → Stuck loose → placeOf loose buf ≡ placeEnd Waiting buf
+  unfolding placeOf placeAs
+  waits buf s = either (placeOf loose buf ≡ placeEnd Waiting buf) (λ order e. absurd (not-both loose order (placing-order loose order e) s)) (λ order e. rw (is, e))
+
+  placed : (Stuck loose → ⊥) → (net : List ℕ) × PlacedAs loose net
+  placed free =
+      either ((net : List ℕ) × PlacedAs loose net) (λ order e. (renumbered loose order, renumbered-placed loose order is (placing-order loose order e)))
+      (λ order e. absurd (free (placing-stuck loose order is e)))
+
+pub place-means : PlaceMeans
+place-means = record {
+  loose = λ loose o w. loose-ok loose (outlined-is loose o) (operands-both loose w);
+  within = λ loose is. (outlined loose (loose-outline loose is), operands-each loose (loose-within loose is));
+  free = free;
+  other = other;
+  takes = λ loose net buf is p. takes loose is net buf p;
+  short = λ loose net buf is p. short loose is net buf p;
+  waits = λ loose buf is. waits loose is buf;
+  placed = placed;
+  never = λ loose net p. not-both loose (p .order) (p .ordered);
+  one = λ loose net other is. one-placed loose net other;
+  lowest = λ loose net is. placed-lowest loose net;
+  netlist = placed-netlist;
+  meaning = placed-meaning;
+  same = λ net is. (netlist-loose net is, netlist-placed net is);
+}

@@ -28,7 +28,7 @@ def graph(name, text, answer):
 def runs(name, file, trace, verdicts, again=None):
     """A file within document 01's subset. A verdict is 1, rejected, where the output is 0 under some start of the
     uninitialised latches."""
-    how = "resets 0 left out" if again else "same text"
+    how = "written as expected" if again else "same text"
     examples.append(("file: " + name, rows(file), rows(again) if again else b"", rows(trace), f"{how}, {verdicts}"))
 
 
@@ -111,27 +111,33 @@ graph("4,096 variables by ==", sixteen("&1&1"), "refused 11 0")
 graph("a wide name", lines("S a 2", "V v", "E v v t a 1"), "refused 19 3")
 
 # ---- the examples of "The AIGER And-Inverter Graph Format". Within the subset: one output or two, inputs, M = I + L + A,
-# variables in order, larger operand first, nothing after the last gate.
+# inputs and latches in order, nothing after the last gate. Gates come in any order, and are written in theirs.
 refused("empty circuit: no input, no output", "aag 0 0 0 0 0", 14, 1)
 refused("constant false: no input", "aag 0 0 0 1 0, 0", 14, 1)
 refused("constant true: no input", "aag 0 0 0 1 0, 1", 14, 1)
 runs("buffer", "aag 1 1 0 1 0, 2, 2", "0, 1", "10")
 runs("inverter", "aag 1 1 0 1 0, 2, 3", "0, 1", "01")
-refused("and gate: smaller operand first", "aag 3 2 0 1 1, 2, 4, 6, 6 2 4", 14, 5)
-refused("or gate: smaller operand first", "aag 3 2 0 1 1, 2, 4, 7, 6 3 5", 14, 5)
+both = "00, 01, 10, 11"
+runs("and gate", "aag 3 2 0 1 1, 2, 4, 6, 6 2 4", both, "1110", again="aag 3 2 0 1 1, 2, 4, 6, 6 4 2")
+runs("or gate", "aag 3 2 0 1 1, 2, 4, 7, 6 3 5", both, "1000", again="aag 3 2 0 1 1, 2, 4, 7, 6 5 3")
 refused("half adder: variables left out", "aag 7 2 0 2 3, 2, 4, 6, 12, 6 13 15, 12 2 4, 14 3 5, i0 x, i1 y, o0 s, o1 c, c, half adder", 14, 1)
 refused("toggle: no input", "aag 1 0 1 2 0, 2 3, 2, 3", 14, 1)
-refused("toggle with enable and reset: operands defined later", "aag 7 2 1 2 4, 2, 4, 6 8, 6, 7, 8 4 10, 10 13 15, 12 2 6, 14 3 7", 14, 7)
+# an input enables, the other resets by 0: the latch is 0, 1 enabled, 1 not enabled, 0 enabled, 1 enabled, 0 reset
+runs(
+    "toggle with enable and reset",
+    "aag 7 2 1 2 4, 2, 4, 6 8, 6, 7, 8 4 10, 10 13 15, 12 2 6, 14 3 7",
+    "11, 01, 11, 11, 10, 01",
+    "100101",
+    again="aag 7 2 1 2 4, 2, 4, 6 14, 6, 7, 8 6 2, 10 7 3, 12 11 9, 14 12 4",
+)
 
 # ---- the same circuits brought into the subset: variables and operands in order, the first output only
-both = "00, 01, 10, 11"
 runs("and gate in order", "aag 3 2 0 1 1, 2, 4, 6, 6 4 2", both, "1110")
 runs("or gate in order", "aag 3 2 0 1 1, 2, 4, 7, 6 5 3", both, "1000")
 runs("half adder in order, its sum", "aag 5 2 0 1 3, 2, 4, 10, 6 4 2, 8 5 3, 10 9 7", both, "1001")
 runs("half adder in order, its carry", "aag 5 2 0 1 3, 2, 4, 6, 6 4 2, 8 5 3, 10 9 7", both, "1110")
 refused("half adder in order, with symbols", "aag 5 2 0 1 3, 2, 4, 10, 6 4 2, 8 5 3, 10 9 7, i0 x", 13, 8)
 runs("toggle in order, with an input", "aag 2 1 1 1 0, 2, 4 5, 4", "0, 0, 1, 1", "1010")
-# an input enables, the other resets by 0: the latch is 0, 1 enabled, 1 not enabled, 0 enabled, 1 enabled, 0 reset
 runs(
     "toggle with enable and reset in order",
     "aag 7 2 1 1 4, 2, 4, 6 14, 6, 8 6 2, 10 7 3, 12 11 9, 14 12 4",
@@ -163,10 +169,14 @@ runs(
     "100",
 )
 
+written = b"".join(
+    f"{len(field)}\n".encode() + field
+    for name, text, again, trace, answer in examples
+    for field in (name.encode(), text, again, trace, answer.encode())
+)
+assert len(written) <= 32768, "the program's buffer is too small"
 with open(os.path.join(here, "stdin"), "wb") as f:
-    for name, text, again, trace, answer in examples:
-        for field in (name.encode(), text, again, trace, answer.encode()):
-            f.write(f"{len(field)}\n".encode() + field)
+    f.write(written)
 with open(os.path.join(here, "stdout"), "w") as f:
     for name, _, _, _, answer in examples:
         f.write(f"{name}\t{answer}\tok\n")

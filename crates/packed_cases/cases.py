@@ -1,7 +1,8 @@
 #!/usr/bin/env python3
 """Writes stdin and stdout of the program packed_cases beside this file: AIGER files in either form, each with what
-documents 01 and 02 (No. 1) say of its read, and of the packed file that is written of its netlist. What is expected comes
-from the answers written here by hand and, for what is written, from the model below; nothing is computed from the crates.
+documents 01 and 02 (No. 1, No. 10) say of its read, and of the packed file that is written of its netlist. What is
+expected comes from the answers written here by hand and, for what is written, from the model below; nothing is computed
+from the crates.
 
 A case in stdin is a line with the file's length in bytes, a blank, the room of the buffer in numbers, a tab and a label;
 and then the file. In stdout it is a line as main.rt says."""
@@ -97,6 +98,40 @@ refused("G without its last gate", G_FILE[:-2], "18 0")
 refused("G with another byte", G_FILE + b"\x00", "18 0")
 refused("G under the text form's word", b"aag" + G_FILE[3:], "14 2")
 refused("G as text under the packed form's word", b"aig" + text(numbers)[3:], "14 0")
+
+# ---- gates in any order, in the text form alone: document 02, No. 10
+def rows(file):
+    """The lines of a file, parted here by commas."""
+    return b"".join(line.strip().encode() + b"\n" for line in file.split(","))
+
+
+*front, g0, g1, g2, g3, g4, g5, g6 = text(numbers).splitlines(True)
+taken("G, its gates reversed", b"".join([*front, g6, g5, g4, g3, g2, g1, g0]), G)
+taken("G, its last gate first", b"".join([*front, g6, g0, g1, g2, g3, g4, g5]), G)
+refused("G, its gates reversed, the buffer one number short", b"".join([*front, g6, g5, g4, g3, g2, g1, g0]), "12 0", 23)
+taken("lines out of order", rows("aag 3 1 0 1 2, 2, 6, 6 2 4, 4 2 2"), "3 1 0 1 2 6 2 2 4 2")
+taken("the second gate is placed first", rows("aag 3 1 0 1 2, 2, 4, 4 6 2, 6 2 3"), "3 1 0 1 2 6 3 2 4 2")
+taken("an inverted output, both signs of an operand", rows("aag 3 1 0 1 2, 2, 5, 4 6 7, 6 2 2"), "3 1 0 1 2 7 2 2 5 4")
+taken("next and output renumbered", rows("aag 4 1 1 1 2, 2, 4 6 4, 8, 6 8 2, 8 4 2"), "4 1 1 1 2 8 4 6 4 2 6 2")
+taken("the order 6, 10, 4, 8", rows("aag 5 1 0 1 4, 2, 4, 4 10 2, 6 2 2, 8 4 6, 10 3 2"), "5 1 0 1 4 8 2 2 3 2 6 2 8 4")
+taken("two outputs renumbered", rows("aag 3 1 0 2 2, 2, 4, 7, 4 6 2, 6 2 3"), "3 1 0 2 2 6 5 3 2 4 2")
+taken("smaller operand first", rows("aag 2 1 0 1 1, 2, 4, 4 2 3"), "2 1 0 1 1 4 3 2")
+taken("smaller operand first, behind a latch", rows("aag 3 1 1 1 1, 2, 4 6, 6, 6 2 4"), "3 1 1 1 1 6 0 6 4 2")
+refused("two gates wait on each other", rows("aag 3 1 0 1 2, 2, 4, 4 6 2, 6 4 2"), "23 0")
+refused("two gates wait on each other, no buffer", rows("aag 3 1 0 1 2, 2, 4, 4 6 2, 6 4 2"), "23 0", 0)
+refused("a gate waits on itself", rows("aag 2 1 0 1 1, 2, 4, 4 4 2"), "23 0")
+refused("a gate waits on its inverse", rows("aag 2 1 0 1 1, 2, 4, 4 5 2"), "23 0")
+refused("a gate behind one that waits on itself", rows("aag 3 1 0 1 2, 2, 4, 4 6 2, 6 6 2"), "23 0")
+refused("a gate twice", rows("aag 3 1 0 1 2, 2, 4, 4 2 2, 4 2 2"), "14 5")
+refused("a gate's literal inverted", rows("aag 2 1 0 1 1, 2, 4, 5 2 2"), "14 4")
+refused("an input's literal for a gate", rows("aag 2 1 0 1 1, 2, 4, 2 2 2"), "14 4")
+refused("a latch's literal for a gate", rows("aag 3 1 1 1 1, 2, 4 2, 6, 4 2 2"), "14 5")
+refused("a gate above the largest literal", rows("aag 2 1 0 1 1, 2, 4, 6 2 2"), "14 4")
+refused("an operand above the largest literal", rows("aag 2 1 0 1 1, 2, 4, 4 6 2"), "14 4")
+refused("a second operand above the largest literal", rows("aag 2 1 0 1 1, 2, 4, 4 2 6"), "14 4")
+refused("a gate twice behind one that waits on itself", rows("aag 3 1 0 1 2, 2, 4, 4 4 2, 4 2 2"), "14 5")
+refused("a line more behind gates that wait", rows("aag 3 1 0 1 2, 2, 4, 4 4 2, 6 2 2, 6 2 2"), "13 6")
+refused("a gate's line missing", rows("aag 3 1 0 1 2, 2, 4, 6 2 2"), "13 5")
 
 # ---- runs of one, two and three bytes
 taken("differences 127 and 0", b"aig 64 63 0 1 1\n128\n\x7f\x00", "64 63 0 1 1 128 1 1")

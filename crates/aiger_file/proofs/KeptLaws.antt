@@ -1,58 +1,64 @@
--- A refusal of either reader leaves the buffer as it was. Assumes nothing.
-use mathlib.Core.Path.{_≡_, refl}
+-- A refusal, of either form, leaves the buffer as it was. Assumes nothing.
+use mathlib.Core.Path.{_≡_, refl, ap₂}
 use mathlib.Core.Bool.{Bool, true, false, cond, not}
-use mathlib.Core.List.{List, _++_}
+use mathlib.Core.List.{List}
 use Prim.Native.Nat.{ℕ, zero, suc}
-use native.Mathlib.Omega.{arith}
 use lib.Dec.{leb}
-use lib.ListN.{length, drop}
+use lib.ListN.{length}
+use Rattle.text.specs.Quoted.{byte}
+use Rattle.gate_order.specs.Placing.{Placing, ordered, waiting, placingOf}
 use Rattle.aiger_lines.specs.Blocks.{Rows, rows, failed}
-use Rattle.aiger_read.specs.declared.Cause.{Cause as TextCause}
-use Rattle.aiger_read.specs.declared.Cause.the-variants as text
-use Rattle.aiger_read.specs.declared.ReadOutcome.the-variants as told
+use Rattle.aiger_lines.specs.Heads.{hasTag}
 use Rattle.aiger_read.specs.Files.{fileRead}
-use Rattle.aiger_read.specs.Read.{ReadEnd as TextEnd, readEnd as textEnd, maxText, readAs as textReadAs, readOf as textReadOf}
-use Rattle.packed_read.specs.declared.Cause.{Cause}
-use Rattle.packed_read.specs.declared.Cause.the-variants.{TextTooLong, ShortBuffer}
-use Rattle.packed_read.specs.declared.ReadOutcome.the-variants.{Numbers, Refused}
+use Rattle.aiger_read.specs.Read.{maxText, placedEnd, readAs as textReadAs, readOf as textReadOf}
 use Rattle.packed_read.specs.Files.{packedRead}
-use Rattle.packed_read.specs.Read.{ReadEnd, readEnd, readAs as packedReadAs, readOf as packedReadOf}
+use Rattle.packed_read.specs.Read.{readAs as packedReadAs, readOf as packedReadOf}
+use Rattle.aiger_file.specs.declared.Cause.{Cause}
+use Rattle.aiger_file.specs.declared.ReadOutcome.{ReadOutcome}
+use Rattle.aiger_file.specs.declared.ReadOutcome.the-variants.{Numbers, Refused}
+use Rattle.aiger_file.specs.Read.{textOutcome, packedOutcome, ReadEnd, readEnd, textReadEnd, packedReadEnd, readOf}
+use Rattle.aiger_file.specs.Claims.{Refuses}
 
 -- what a refused end leaves
 record Kept (buf : List ℕ) (e : ReadEnd) : Type 0 where
   kept : (cause : Cause) → e .answer ≡ Refused cause → e .net ≡ buf
 
-kept-if : {buf : List ℕ} (t : Bool) (cause : Cause) (e : ReadEnd) → Kept buf e → Kept buf (cond t (readEnd (Refused cause) buf) e)
-kept-if true cause e k = record { kept = λ c is. refl }
-kept-if false cause e k = k
+unchanged : {buf : List ℕ} {r : ReadOutcome} → Kept buf (readEnd r buf)
+unchanged = record { kept = λ c is. refl }
 
-kept-as : (buf : List ℕ) (x : Rows) → Kept buf (packedReadAs x buf)
-unfolding packedReadAs
-kept-as buf (failed e zero) = record { kept = λ c is. refl }
-kept-as buf (failed e (suc n)) = record { kept = λ c is. refl }
-kept-as buf (rows ns free q) =
-    kept-if (not (leb (length ns) (length buf))) ShortBuffer (readEnd (Numbers (length ns)) (ns ++ drop (length ns) buf))
-    (record { kept = λ c is. let z : _≡_ {A = ℕ} 0 1 = cc in absurd (omega arith) })
+numbers : {buf after : List ℕ} {n : ℕ} → Kept buf (readEnd (Numbers n) after)
+numbers = record { kept = λ c is. cc }
 
-pub packed-kept : (s buf : List ℕ) (cause : Cause) → packedReadOf s buf .answer ≡ Refused cause → packedReadOf s buf .net ≡ buf
-unfolding packedReadOf
-packed-kept s buf = kept-if (not (leb (length s) maxText)) TextTooLong (packedReadAs (packedRead s) buf) (kept-as buf (packedRead s)) .kept
+-- one of two ends, whatever form they have
+one-of : {E : Type 0} {buf : List ℕ} (f : E → ReadEnd) (t : Bool) (x y : E) → Kept buf (f x) → Kept buf (f y) → Kept buf (f (cond t x y))
+one-of f true x y k l = k
+one-of f false x y k l = l
 
--- and of the text form
-record TextKept (buf : List ℕ) (e : TextEnd) : Type 0 where
-  kept : (cause : TextCause) → e .answer ≡ told.Refused cause → e .net ≡ buf
+packed-as : (buf : List ℕ) (x : Rows) → Kept buf (packedReadEnd (packedReadAs x buf))
+unfolding packedReadAs packedReadEnd packedOutcome
+packed-as buf (failed e zero) = unchanged
+packed-as buf (failed e (suc n)) = unchanged
+packed-as buf (rows ns free q) = one-of packedReadEnd (not (leb (length ns) (length buf))) _ _ unchanged numbers
 
-text-kept-if : {buf : List ℕ} (t : Bool) (cause : TextCause) (e : TextEnd) → TextKept buf e → TextKept buf (cond t (textEnd (told.Refused cause) buf) e)
-text-kept-if true cause e k = record { kept = λ c is. refl }
-text-kept-if false cause e k = k
+packed-kept : (s buf : List ℕ) → Kept buf (packedReadEnd (packedReadOf s buf))
+unfolding packedReadOf packedReadEnd
+packed-kept s buf = one-of packedReadEnd (not (leb (length s) maxText)) _ _ unchanged (packed-as buf (packedRead s))
 
-text-kept-as : (buf : List ℕ) (x : Rows) → TextKept buf (textReadAs x buf)
-unfolding textReadAs
-text-kept-as buf (failed e line) = record { kept = λ c is. refl }
-text-kept-as buf (rows ns free q) =
-    text-kept-if (not (leb (length ns) (length buf))) text.ShortBuffer (textEnd (told.Numbers (length ns)) (ns ++ drop (length ns) buf))
-    (record { kept = λ c is. let z : _≡_ {A = ℕ} 0 1 = cc in absurd (omega arith) })
+placed-as : (buf loose : List ℕ) (x : Placing) → Kept buf (textReadEnd (placedEnd x loose buf))
+unfolding placedEnd textReadEnd textOutcome
+placed-as buf loose (waiting order) = unchanged
+placed-as buf loose (ordered order) = one-of textReadEnd (not (leb (length loose) (length buf))) _ _ unchanged numbers
 
-pub text-kept : (s buf : List ℕ) (cause : TextCause) → textReadOf s buf .answer ≡ told.Refused cause → textReadOf s buf .net ≡ buf
-unfolding textReadOf
-text-kept s buf = text-kept-if (not (leb (length s) maxText)) text.TextTooLong (textReadAs (fileRead s) buf) (text-kept-as buf (fileRead s)) .kept
+text-as : (buf : List ℕ) (x : Rows) → Kept buf (textReadEnd (textReadAs x buf))
+unfolding textReadAs textReadEnd
+text-as buf (failed e line) = unchanged
+text-as buf (rows loose free q) = placed-as buf loose (placingOf loose)
+
+text-kept : (s buf : List ℕ) → Kept buf (textReadEnd (textReadOf s buf))
+unfolding textReadOf textReadEnd
+text-kept s buf = one-of textReadEnd (not (leb (length s) maxText)) _ _ unchanged (text-as buf (fileRead s))
+
+pub kept : (s buf : List ℕ) (cause : Cause) → readOf s buf .answer ≡ Refused cause → Refuses s buf cause
+unfolding readOf
+kept s buf cause h =
+    ap₂ readEnd h (one-of (λ (e : ReadEnd). e) (hasTag (byte "i") s) _ _ (packed-kept s buf) (text-kept s buf) .kept cause h)

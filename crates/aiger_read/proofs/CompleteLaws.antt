@@ -1,18 +1,23 @@
--- Every file of a netlist is taken, and gives the netlist's numbers; where its header is out of limits, an output
--- or a gate has a fault, or something stands behind it, it is refused at that line. Assumes nothing.
-use mathlib.Core.Path.{_≡_, refl, sym, ap, _∙_}
+-- Every file is read as its numbers; where its header, an input, a latch, an output or a gate has a fault, or
+-- something stands behind it, it is refused at that line. Assumes nothing.
+use mathlib.Core.Path.{_≡_, refl, sym, ap, ap₂, _∙_}
 use mathlib.Core.Bool.{Bool, true, false}
 use mathlib.Core.List.{List, [], _∷_, _++_, append-assoc}
-use Prim.Native.Nat.{ℕ, _+_, _*_, _<_}
+use Prim.Native.Nat.{ℕ, suc, _+_, _-_, _*_, _≤_, _<_}
 use native.Mathlib.Omega.{arith}
-use lib.ListN.{length, getD}
+use lib.ListN.{length, getD, replicate, length-replicate, getD-replicate}
 use Rattle.text.specs.Writer.{joined}
-use Rattle.netlist.specs.Layout.{maximum, inputCount, latchCount, outputCount, gateCount, nextAt, resetAt, operandsAt, sizeOf, latchVariable, gateVariable}
+use Rattle.text.proofs.WriterLaws.{joined-same}
+use Rattle.netlist.specs.Layout.{maximum, inputCount, latchCount, outputCount, gateCount, nextAt, resetAt, sizeOf, latchVariable}
 use Rattle.netlist.specs.Literals.{literalOf}
-use Rattle.netlist.specs.Valid.{headerOk, freeCount, isNetlist}
-use Rattle.netlist.proofs.ValidLaws.{Valid, valid, outline-of}
+use Rattle.netlist.specs.Valid.{headerOk, freeCount, isOutline}
+use Rattle.netlist.proofs.LiteralLaws.{literal-inverted}
+use Rattle.netlist.proofs.ValidLaws.{Outline, outline}
+use Rattle.gate_order.specs.Loose.{firstGate, leftOf, rightOf, isLoose, Once}
+use Rattle.gate_order.proofs.LooseLaws.{loose-outline, loose-within}
+use Rattle.gate_order.proofs.OrderLaws.{once-all}
 use Rattle.aiger.specs.Rows.{headerRow}
-use Rattle.aiger.specs.Format.{inputLine, latchLine, outputLine, gateLine, fileWith}
+use Rattle.aiger.specs.Format.{inputLine, latchLine, outputLine}
 use Rattle.aiger_lines.specs.declared.Fault.{Fault}
 use Rattle.aiger_lines.specs.declared.Fault.the-variants.{WrongShape, OutOfLimits}
 use Rattle.aiger_lines.specs.Lines.{row, fault}
@@ -20,156 +25,258 @@ use Rattle.aiger_lines.specs.Blocks.{Rows, rows, failed, behind, rowsOf}
 use Rattle.aiger_lines.specs.Heads.{onHead}
 use Rattle.aiger_lines.proofs.PlaceLaws.{At, at-split, at-whole}
 use Rattle.aiger_lines.proofs.FieldLaws.{Small}
-use Rattle.aiger_lines.proofs.HeadLaws.{head-fault}
+use Rattle.aiger_lines.proofs.HeadLaws.{head-fault, head-none}
 use Rattle.aiger_lines.proofs.RunLaws.{to-end, past-end, no-end}
 use Rattle.aiger_lines.proofs.LayoutLaws.{pairAt, oneAt, made}
 use Rattle.aiger_lines.proofs.NetLaws.{joined-none, complete-run, faulty-run, outputRows, own-small, within, reset-small, net-head, net-latch, outputs-run, outputs-fault}
-use Rattle.aiger_read.specs.Files.{bodyOf, fileRead}
-use Rattle.aiger_read.specs.Claims.{IsFile, fileTo, lineOfOutput, lineOfGate}
-use Rattle.aiger_read.proofs.TextLaws.{input-complete, latch-complete, gate-complete}
-use Rattle.aiger_read.proofs.BodyLaws.{inputRows, latchRows, gateRows, gatesToEnd, body-made, body-fault}
+use Rattle.aiger_read.specs.Lines.{undefined, gateAt}
+use Rattle.aiger_read.specs.Files.{gateRows, bodyOf, fileRead}
+use Rattle.aiger_read.specs.Claims.{IsFile, toInput, toLatch, fileTo, gateLines, fileBy, lineOfOutput, lineOfGate}
+use Rattle.aiger_read.proofs.TextLaws.{input-complete, latch-complete}
+use Rattle.aiger_read.proofs.GateLaws.{whole-pairs, Apart, storedBy, stored-length, stored-own, read-order, order-fault}
+use Rattle.aiger_read.proofs.BodyLaws.{inputRows, latchRows, gateBlock, gatesToEnd, body-made, inputs-faulty, latches-faulty, outputs-faulty}
 
--- a header out of limits that stands there
+-- a header out of limits that stands there, and none
 pub header-fault : (s : List ℕ) (m i l o a q : ℕ) → At s 0 (headerRow m i l o a) q → Small (m ∷ i ∷ l ∷ o ∷ a ∷ []) → headerOk m i l o a ≡ false → fileRead s ≡ failed OutOfLimits 1
 unfolding fileRead headerRow onHead
 header-fault s m i l o a q stands few e = rw (head-fault 97 s m i l o a q stands few e)
 
-module _ (s net : List ℕ) (explicit : ℕ → Bool) (is : isNetlist net ≡ true) where
-  abbrev v : Valid net
-  v = valid net is
+pub header-none : (s : List ℕ) → ((m i l o a q : ℕ) → Small (m ∷ i ∷ l ∷ o ∷ a ∷ []) → At s 0 (headerRow m i l o a) q → ⊥) → fileRead s ≡ failed WrongShape 1
+unfolding fileRead headerRow onHead
+header-none s none = rw (head-none 97 s none)
 
-  -- ---- the runs
-  inputs-run : (p q line : ℕ) → At s p (joined inputLine (inputCount net)) q → rowsOf (inputRows s) (inputCount net) 0 line 0 p ≡ rows [] 0 q
+module _ (s loose : List ℕ) (explicit : ℕ → Bool) (is : isLoose loose ≡ true) where
+  out : isOutline loose ≡ true
+  out = loose-outline loose is
+
+  v : Outline loose
+  v = outline loose out
+
+  abbrev heads : List ℕ
+  heads = maximum loose ∷ inputCount loose ∷ latchCount loose ∷ outputCount loose ∷ gateCount loose ∷ []
+
+  abbrev latchPair : ℕ → List ℕ
+  latchPair k = pairAt loose (5 + 2 * k)
+
+  abbrev frees : ℕ
+  frees = freeCount loose (latchCount loose)
+
+  -- ---- input k and latch k, and all of them
+  input-run : (k x y : ℕ) → k < inputCount loose → At s x (inputLine k) y → inputRows s k 0 x ≡ row [] 0 y
   unfolding inputLine
+  input-run k x y h b = input-complete s 0 x y (literalOf (1 + k) false) (own-small loose out (1 + k) (omega (arith, v .few))) b
+
+  inputs-run : (p q line : ℕ) → At s p (joined inputLine (inputCount loose)) q → rowsOf (inputRows s) (inputCount loose) 0 line 0 p ≡ rows [] 0 q
   inputs-run p q line a =
-      let r = complete-run s (inputRows s) inputLine (λ _. []) (λ _. 0) (inputCount net) line p q a (λ k x y h b. input-complete s 0 x y (literalOf (1 + k) false) (own-small net (outline-of net is) (1 + k) (omega (arith, v .few))) b) in
-      rw (joined-none (λ _. []) (inputCount net) (λ k h. refl)) at r
+      let r = complete-run s (inputRows s) inputLine (λ _. []) (λ _. 0) (inputCount loose) line p q a input-run in
+      rw (joined-none (λ _. []) (inputCount loose) (λ k h. refl)) at r
 
-  latches-run : (p q line : ℕ) → At s p (joined (latchLine net explicit) (latchCount net)) q
-      → rowsOf (latchRows s (maximum net) (inputCount net)) (latchCount net) 0 line 0 p ≡ rows (joined (λ k. pairAt net (5 + 2 * k)) (latchCount net)) (freeCount net (latchCount net)) q
-  unfolding latchLine freeCount
-  latches-run p q line a =
-      complete-run s (latchRows s (maximum net) (inputCount net)) (latchLine net explicit) (λ k. pairAt net (5 + 2 * k)) (freeCount net) (latchCount net) line p q a
-      (λ k x y h b.
-      latch-complete s (freeCount net k) x y (explicit k) (literalOf (maximum net) true) (literalOf (latchVariable net k) false) (getD net (nextAt k) 0) (getD net (resetAt k) 0)
-      (own-small net (outline-of net is) (latchVariable net k) (omega (arith, v .sum, v .small))) (within net (outline-of net is) (getD net (nextAt k) 0) (v .nexts k h) .1) (reset-small net (outline-of net is) k h) b
-      ∙ net-latch net (outline-of net is) k y h)
+  latch-run : (k x y : ℕ) → k < latchCount loose → At s x (latchLine loose explicit k) y
+      → latchRows s (maximum loose) (inputCount loose) k (freeCount loose k) x ≡ row (latchPair k) (freeCount loose (suc k)) y
+  unfolding latchLine
+  latch-run k x y h b =
+      latch-complete s (freeCount loose k) x y (explicit k) (literalOf (maximum loose) true) (literalOf (latchVariable loose k) false) (getD loose (nextAt k) 0) (getD loose (resetAt k) 0)
+      (own-small loose out (latchVariable loose k) (omega (arith, v .sum, v .small))) (within loose out (getD loose (nextAt k) 0) (v .nexts k h) .1) (reset-small loose out k h) b
+      ∙ net-latch loose out k y h
 
-  gate-run : (f k x y : ℕ) → k < gateCount net → At s x (gateLine net k) y
-      → gateRows s (inputCount net) (latchCount net) k f x ≡ row (pairAt net (5 + 2 * latchCount net + outputCount net + 2 * k)) f y
-  unfolding gateLine
-  gate-run f k x y h b =
-      gate-complete s f x y (literalOf (gateVariable net k) false) (getD net (operandsAt net k) 0) (getD net (operandsAt net k + 1) 0)
-      (own-small net (outline-of net is) (gateVariable net k) (omega (arith, v .sum, v .small))) (v .below k h) (v .order k h) b
+  latches-run : (p q line : ℕ) → At s p (joined (latchLine loose explicit) (latchCount loose)) q
+      → rowsOf (latchRows s (maximum loose) (inputCount loose)) (latchCount loose) 0 line 0 p ≡ rows (joined latchPair (latchCount loose)) frees q
+  unfolding freeCount
+  latches-run p q line a = complete-run s (latchRows s (maximum loose) (inputCount loose)) (latchLine loose explicit) latchPair (freeCount loose) (latchCount loose) line p q a latch-run
 
-  gates-run : (f p q line : ℕ) → At s p (joined (gateLine net) (gateCount net)) q
-      → rowsOf (gateRows s (inputCount net) (latchCount net)) (gateCount net) 0 line f p ≡ rows (joined (λ k. pairAt net (5 + 2 * latchCount net + outputCount net + 2 * k)) (gateCount net)) f q
-  gates-run f p q line a =
-      complete-run s (gateRows s (inputCount net) (latchCount net)) (gateLine net) (λ k. pairAt net (5 + 2 * latchCount net + outputCount net + 2 * k)) (λ _. f) (gateCount net) line p q a (gate-run f)
-
-  -- ---- the header
-  body : (q : ℕ) → At s 0 (headerRow (maximum net) (inputCount net) (latchCount net) (outputCount net) (gateCount net)) q
-      → fileRead s ≡ behind (maximum net ∷ inputCount net ∷ latchCount net ∷ outputCount net ∷ gateCount net ∷ []) (bodyOf s (maximum net) (inputCount net) (latchCount net) (outputCount net) (gateCount net) q)
-  unfolding fileRead headerRow onHead
-  body q a = rw (net-head net (outline-of net is) 97 s q a)
-
-  -- ---- a text that is a file up to the line of output k
-  record Parts (k : ℕ) (more : List ℕ) : Type 0 where
+  -- ---- a text that is a file up to the line of input k, of latch k, of output k
+  record InputParts (k : ℕ) (more : List ℕ) : Type 0 where
     p0 : ℕ
     p1 : ℕ
+    header : fileRead s ≡ behind heads (bodyOf s (maximum loose) (inputCount loose) (latchCount loose) (outputCount loose) (gateCount loose) p0)
+    inputs : At s p0 (joined inputLine k) p1
+    rest : At s p1 more (length s)
+
+  record LatchParts (k : ℕ) (more : List ℕ) : Type 0 where
+    front : InputParts (inputCount loose) (joined (latchLine loose explicit) k ++ more)
     p2 : ℕ
+    latches : At s (front .p1) (joined (latchLine loose explicit) k) p2
+    rest : At s p2 more (length s)
+
+  record Parts (k : ℕ) (more : List ℕ) : Type 0 where
+    front : LatchParts (latchCount loose) (joined (outputLine loose) k ++ more)
     p3 : ℕ
-    header : At s 0 (headerRow (maximum net) (inputCount net) (latchCount net) (outputCount net) (gateCount net)) p0
-    inputs : At s p0 (joined inputLine (inputCount net)) p1
-    latches : At s p1 (joined (latchLine net explicit) (latchCount net)) p2
-    outputs : At s p2 (joined (outputLine net) k) p3
+    outputs : At s (front .p2) (joined (outputLine loose) k) p3
     rest : At s p3 more (length s)
 
-  parts : (k : ℕ) (more : List ℕ) → s ≡ fileTo net explicit k ++ more → Parts k more
-  unfolding fileTo
-  parts k more is-text =
-      let h = headerRow (maximum net) (inputCount net) (latchCount net) (outputCount net) (gateCount net) in
-      let t1 = joined inputLine (inputCount net) in
-      let t2 = joined (latchLine net explicit) (latchCount net) in
-      let t3 = joined (outputLine net) k in
-      let a = at-split (h ++ (t1 ++ (t2 ++ t3))) more (at-whole ((h ++ (t1 ++ (t2 ++ t3))) ++ more) is-text) in
-      let a0 = at-split h (t1 ++ (t2 ++ t3)) (a .0) in
-      let a1 = at-split t1 (t2 ++ t3) (a0 .1) in
-      let a2 = at-split t2 t3 (a1 .1) in
+  input-parts : (k : ℕ) (more : List ℕ) → s ≡ toInput loose k ++ more → InputParts k more
+  unfolding toInput fileRead headerRow onHead
+  input-parts k more e =
+      let h = headerRow (maximum loose) (inputCount loose) (latchCount loose) (outputCount loose) (gateCount loose) in
+      let t = joined inputLine k in
+      let a = at-split (h ++ t) more (at-whole ((h ++ t) ++ more) e) in
+      let b = at-split h t (a .0) in
       record {
         p0 = 0 + length h;
-        p1 = 0 + length h + length t1;
-        p2 = 0 + length h + length t1 + length t2;
-        p3 = 0 + length (h ++ (t1 ++ (t2 ++ t3)));
-        header = a0 .0;
-        inputs = a1 .0;
-        latches = a2 .0;
-        outputs = a2 .1;
+        p1 = 0 + length (h ++ t);
+        header = rw (net-head loose out 97 s (0 + length h) (b .0));
+        inputs = b .1;
         rest = a .1;
       }
 
-  abbrev frees : ℕ
-  frees = freeCount net (latchCount net)
+  latch-parts : (k : ℕ) (more : List ℕ) → s ≡ toLatch loose explicit k ++ more → LatchParts k more
+  unfolding toLatch
+  latch-parts k more e =
+      let t = joined (latchLine loose explicit) k in
+      let w = input-parts (inputCount loose) (t ++ more) (e ∙ append-assoc (toInput loose (inputCount loose)) t more) in
+      let a = at-split t more (w .rest) in
+      record { front = w; p2 = w .p1 + length t; latches = a .0; rest = a .1 }
 
-  -- the line of output k has a fault
-  pub file-fault : (e : Fault) (k : ℕ) (more : List ℕ) → s ≡ fileTo net explicit k ++ more → k < outputCount net
-      → ((f p : ℕ) → At s p more (length s) → outputRows s (maximum net) k f p ≡ fault e) → fileRead s ≡ failed e (lineOfOutput net k)
+  -- a file up to output k is one up to the outputs, and then their lines
+  file-outputs : (k : ℕ) → fileTo loose explicit k ≡ toLatch loose explicit (latchCount loose) ++ joined (outputLine loose) k
+  unfolding fileTo toLatch toInput
+  file-outputs k =
+      let h = headerRow (maximum loose) (inputCount loose) (latchCount loose) (outputCount loose) (gateCount loose) in
+      let t1 = joined inputLine (inputCount loose) in
+      let t2 = joined (latchLine loose explicit) (latchCount loose) in
+      let t3 = joined (outputLine loose) k in
+      sym (append-assoc (h ++ t1) t2 t3 ∙ append-assoc h t1 (t2 ++ t3))
+
+  parts : (k : ℕ) (more : List ℕ) → s ≡ fileTo loose explicit k ++ more → Parts k more
+  parts k more e =
+      let t = joined (outputLine loose) k in
+      let w = latch-parts (latchCount loose) (t ++ more) (e ∙ ap (λ (x : List ℕ). x ++ more) (file-outputs k) ∙ append-assoc (toLatch loose explicit (latchCount loose)) t more) in
+      let a = at-split t more (w .rest) in
+      record { front = w; p3 = w .p2 + length t; outputs = a .0; rest = a .1 }
+
+  -- the line of input k, of latch k, of output k has a fault
+  pub input-fault : (e : Fault) (k : ℕ) (more : List ℕ) → s ≡ toInput loose k ++ more → k < inputCount loose
+      → ((p : ℕ) → At s p more (length s) → inputRows s k 0 p ≡ fault e) → fileRead s ≡ failed e (2 + k)
+  unfolding behind
+  input-fault e k more is-text l bad =
+      let w = input-parts k more is-text in
+      let b =
+      inputs-faulty s (maximum loose) (inputCount loose) (latchCount loose) (outputCount loose) (gateCount loose) (w .p0) e (2 + k)
+      (faulty-run s (inputRows s) inputLine (λ _. []) (λ _. 0) e k (inputCount loose) 2 (w .p0) (w .p1) l (w .inputs)
+      (λ j x y i c. input-run j x y (omega arith) c) (bad (w .p1) (w .rest))) in
+      w .header ∙ rw b
+
+  pub latch-fault : (e : Fault) (k : ℕ) (more : List ℕ) → s ≡ toLatch loose explicit k ++ more → k < latchCount loose
+      → ((p : ℕ) → At s p more (length s) → latchRows s (maximum loose) (inputCount loose) k (freeCount loose k) p ≡ fault e) → fileRead s ≡ failed e (inputCount loose + 2 + k)
+  unfolding behind freeCount
+  latch-fault e k more is-text l bad =
+      let w = latch-parts k more is-text in
+      let u = w .front in
+      let b =
+      latches-faulty s (maximum loose) (inputCount loose) (latchCount loose) (outputCount loose) (gateCount loose) (u .p0) e (inputCount loose + 2 + k) [] 0 (u .p1)
+      (inputs-run _ _ _ (u .inputs))
+      (faulty-run s (latchRows s (maximum loose) (inputCount loose)) (latchLine loose explicit) latchPair (freeCount loose) e k (latchCount loose) (inputCount loose + 2) (u .p1) (w .p2) l (w .latches)
+      (λ j x y i c. latch-run j x y (omega arith) c) (bad (w .p2) (w .rest))) in
+      u .header ∙ rw b
+
+  pub file-fault : (e : Fault) (k : ℕ) (more : List ℕ) → s ≡ fileTo loose explicit k ++ more → k < outputCount loose
+      → ((f p : ℕ) → At s p more (length s) → outputRows s (maximum loose) k f p ≡ fault e) → fileRead s ≡ failed e (lineOfOutput loose k)
   unfolding behind
   file-fault e k more is-text l bad =
       let w = parts k more is-text in
+      let u = w .front .front in
       let b =
-      body-fault s (maximum net) (inputCount net) (latchCount net) (outputCount net) (gateCount net) [] _ (w .p0) 0 (w .p1) frees (w .p2) e (lineOfOutput net k)
-      (inputs-run _ _ _ (w .inputs)) (latches-run _ _ _ (w .latches))
-      (outputs-fault net (outline-of net is) s e k frees _ _ _ l (w .outputs) (bad frees _ (w .rest))) in
-      body (w .p0) (w .header) ∙ rw b
+      outputs-faulty s (maximum loose) (inputCount loose) (latchCount loose) (outputCount loose) (gateCount loose) (u .p0) e (lineOfOutput loose k) [] 0 (u .p1)
+      (inputs-run _ _ _ (u .inputs)) _ frees (w .front .p2) (latches-run _ _ _ (w .front .latches))
+      (outputs-fault loose out s e k frees _ _ _ l (w .outputs) (bad frees _ (w .rest))) in
+      u .header ∙ rw b
 
   -- ---- a text that is a file up to the gates: these are read, and then the end
-  up-to-gates : (more : List ℕ) (x : Rows) → s ≡ fileTo net explicit (outputCount net) ++ more
-      → ((p : ℕ) → At s p more (length s) → gatesToEnd s (inputCount net) (latchCount net) (outputCount net) (gateCount net) frees p ≡ x)
-      → fileRead s ≡ behind (maximum net ∷ inputCount net ∷ latchCount net ∷ outputCount net ∷ gateCount net ∷ []) (behind [] (behind (joined (λ k. pairAt net (5 + 2 * k)) (latchCount net)) (behind (joined (λ k. oneAt net (5 + 2 * latchCount net + k)) (outputCount net)) x)))
+  up-to-gates : (more : List ℕ) (x : Rows) → s ≡ fileTo loose explicit (outputCount loose) ++ more
+      → ((p : ℕ) → At s p more (length s) → gatesToEnd s (maximum loose) (inputCount loose) (latchCount loose) (outputCount loose) (gateCount loose) frees p ≡ x)
+      → fileRead s ≡ behind heads (behind [] (behind (joined latchPair (latchCount loose)) (behind (joined (λ k. oneAt loose (5 + 2 * latchCount loose + k)) (outputCount loose)) x)))
   up-to-gates more x is-text then =
-      let w = parts (outputCount net) more is-text in
+      let w = parts (outputCount loose) more is-text in
+      let u = w .front .front in
       let b =
-      body-made s (maximum net) (inputCount net) (latchCount net) (outputCount net) (gateCount net) [] _ _ (w .p0) 0 (w .p1) frees (w .p2) frees (w .p3)
-      (inputs-run _ _ _ (w .inputs)) (latches-run _ _ _ (w .latches)) (outputs-run net (outline-of net is) s frees _ _ _ (w .outputs)) in
-      body (w .p0) (w .header) ∙ rw (b, then (w .p3) (w .rest))
+      body-made s (maximum loose) (inputCount loose) (latchCount loose) (outputCount loose) (gateCount loose) [] _ _ (u .p0) 0 (u .p1) frees (w .front .p2) frees (w .p3)
+      (inputs-run _ _ _ (u .inputs)) (latches-run _ _ _ (w .front .latches)) (outputs-run loose out s frees _ _ _ (w .outputs)) in
+      u .header ∙ rw (b, then (w .p3) (w .rest))
 
-  -- the line of gate k has a fault
-  pub gate-fault : (e : Fault) (k : ℕ) (more : List ℕ) → s ≡ fileTo net explicit (outputCount net) ++ (joined (gateLine net) k ++ more) → k < gateCount net
-      → ((f p : ℕ) → At s p more (length s) → gateRows s (inputCount net) (latchCount net) k f p ≡ fault e) → fileRead s ≡ failed e (lineOfGate net k)
-  unfolding behind
-  gate-fault e k more is-text l bad =
-      up-to-gates (joined (gateLine net) k ++ more) (failed e (lineOfGate net k)) is-text
-      (λ p a.
-      let w = at-split (joined (gateLine net) k) more a in
-      no-end s _ _ e (lineOfGate net k)
-      (faulty-run s (gateRows s (inputCount net) (latchCount net)) (gateLine net) (λ j. pairAt net (5 + 2 * latchCount net + outputCount net + 2 * j)) (λ _. frees) e k (gateCount net) _ _ _ l (w .0)
-      (λ j x y i c. gate-run frees j x y (omega arith) c) (bad frees _ (w .1))))
+  -- ---- the lines of gates, in an order of some or all
+  module _ (order : List ℕ) (once : Once loose order) where
+    sum : firstGate loose + gateCount loose ≡ maximum loose + 1
+    sum = omega (arith, v .sum)
 
-  -- ---- the whole
-  whole : fileWith net explicit ≡ fileTo net explicit (outputCount net) ++ joined (gateLine net) (gateCount net)
-  unfolding fileWith fileTo
-  whole = rw (append-assoc, append-assoc, append-assoc)
+    apart : Apart (firstGate loose) (maximum loose) order
+    apart = record { inside = λ k h. let i = once .inside k h in (i .0, omega (arith, i .1, sum)); once = once .once }
 
-  file-read : s ≡ fileWith net explicit → length net ≡ sizeOf net → (free q : ℕ) × (fileRead s ≡ rows net free q)
-  unfolding behind
-  file-read e size =
-      let r =
-      up-to-gates (joined (gateLine net) (gateCount net)) (rows (joined (λ k. pairAt net (5 + 2 * latchCount net + outputCount net + 2 * k)) (gateCount net)) frees (length s)) (e ∙ whole)
-      (λ p a. to-end s _ _ _ frees (length s) (gates-run frees _ _ _ a) refl) in
-      (frees, length s, r ∙ ap (λ (x : List ℕ). rows x frees (length s)) (sym (made net size)))
+    abbrev pub none : List ℕ
+    none = replicate (2 * gateCount loose) undefined
 
-  -- and something behind it
-  pub file-extra : (more : List ℕ) → s ≡ fileWith net explicit ++ more → 0 < length more
-      → fileRead s ≡ failed WrongShape (inputCount net + latchCount net + outputCount net + gateCount net + 2)
-  unfolding behind
-  file-extra more e some =
-      let g = joined (gateLine net) (gateCount net) in
-      let n = inputCount net + latchCount net + outputCount net + gateCount net + 2 in
-      up-to-gates (g ++ more) (failed WrongShape n) (e ∙ ap (λ (x : List ℕ). x ++ more) whole ∙ append-assoc (fileTo net explicit (outputCount net)) g more)
-      (λ p a.
-      let w = at-split g more a in
-      past-end s _ n _ frees (p + length g) (gates-run frees _ _ _ (w .0)) (λ (z : p + length g ≡ length s). absurd (omega (arith, w .1 .place))))
+    long : length none ≡ 2 * gateCount loose
+    long = length-replicate (2 * gateCount loose) undefined
 
-pub complete : (text net : List ℕ) → IsFile text net → (free q : ℕ) × (fileRead text ≡ rows net free q)
-complete text net f = file-read text net (f .explicit) (f .netlist) (f .is) (f .exact)
+    -- what the lines of the order leave
+    abbrev pub stored : List ℕ
+    stored = storedBy (firstGate loose) (leftOf loose) (rightOf loose) none order
+
+    fits : (k : ℕ) → k < length order → (leftOf loose (getD order k 0) ≤ literalOf (maximum loose) true) × (rightOf loose (getD order k 0) ≤ literalOf (maximum loose) true)
+    fits k h = let i = once .inside k h in loose-within loose is (getD order k 0 - firstGate loose) (omega arith)
+
+    fresh : (k : ℕ) → k < length order → getD none (2 * (getD order k 0 - firstGate loose)) 0 ≡ undefined
+    fresh k h = let i = once .inside k h in getD-replicate (2 * gateCount loose) (2 * (getD order k 0 - firstGate loose)) undefined 0 (omega arith)
+
+    -- the operands of a gate whose line was read
+    operands : (k : ℕ) → k < length order
+        → (getD stored (2 * (getD order k 0 - firstGate loose)) 0 ≡ leftOf loose (getD order k 0)) × (getD stored (2 * (getD order k 0 - firstGate loose) + 1) 0 ≡ rightOf loose (getD order k 0))
+    operands k h = stored-own (firstGate loose) (leftOf loose) (rightOf loose) (maximum loose) (gateCount loose) sum none order long apart k h
+
+    -- a variable that has none yet has no line
+    pub still-fresh : (x : ℕ) → getD stored (2 * (x - firstGate loose)) 0 ≡ undefined → (k : ℕ) → k < length order → getD order k 0 ≡ x → ⊥
+    still-fresh x u k h e = omega (arith, rw e at (operands k h .0), rw e at (fits k h .0), literal-inverted (maximum loose), v .small)
+
+    stored-pairs : length order ≡ gateCount loose → stored ≡ joined (λ k. pairAt loose (5 + 2 * latchCount loose + outputCount loose + 2 * k)) (gateCount loose)
+    stored-pairs whole =
+        sym (whole-pairs stored (gateCount loose) (stored-length (firstGate loose) (leftOf loose) (rightOf loose) none order ∙ long))
+        ∙ joined-same (λ k. pairAt stored (2 * k)) (λ k. pairAt loose (5 + 2 * latchCount loose + outputCount loose + 2 * k)) (gateCount loose)
+        (λ k h.
+        let w = once-all loose order once whole (firstGate loose + k) (omega arith) (omega arith) in
+        let n : firstGate loose + k - firstGate loose ≡ k = omega arith in
+        let o = rw (w .2, n) at (operands (w .0) (w .1)) in
+        ap₂ (λ (x y : ℕ). x ∷ y ∷ []) (o .0) (o .1))
+
+    gates-run : length order ≡ gateCount loose → (f p q : ℕ) → At s p (gateLines loose order) q
+        → gateBlock s (maximum loose) (inputCount loose) (latchCount loose) (outputCount loose) (gateCount loose) f p ≡ rows (joined (λ k. pairAt loose (5 + 2 * latchCount loose + outputCount loose + 2 * k)) (gateCount loose)) f q
+    unfolding gateLines gateRows
+    gates-run whole f p q a =
+        let line = inputCount loose + latchCount loose + outputCount loose + 2 in
+        let n : gateCount loose ≡ length order + 0 = omega arith in
+        let r = read-order s (firstGate loose) (maximum loose) (gateCount loose) (v .small) sum (leftOf loose) (rightOf loose) none order long apart fits fresh 0 line f p q a in
+        ap (λ (c : ℕ). gateRows s (firstGate loose) (maximum loose) c line none f p) n ∙ r ∙ ap (λ (x : List ℕ). rows x f q) (stored-pairs whole)
+
+    -- the line behind those of the order has a fault
+    pub gate-fault : (e : Fault) (more : List ℕ) → s ≡ fileBy loose explicit order ++ more → length order < gateCount loose
+        → ((f p : ℕ) → At s p more (length s) → gateAt s (firstGate loose) (maximum loose) stored f p ≡ fault e) → fileRead s ≡ failed e (lineOfGate loose (length order))
+    unfolding behind fileBy gateLines
+    gate-fault e more is-text l bad =
+        up-to-gates (gateLines loose order ++ more) (failed e (lineOfGate loose (length order))) (is-text ∙ append-assoc (fileTo loose explicit (outputCount loose)) (gateLines loose order) more)
+        (λ p a.
+        let w = at-split (gateLines loose order) more a in
+        no-end s _ _ e (lineOfGate loose (length order))
+        (order-fault s (firstGate loose) (maximum loose) (gateCount loose) (v .small) sum (leftOf loose) (rightOf loose) none order long apart fits fresh (gateCount loose) _ frees _ _ e l (w .0) (bad frees _ (w .1))))
+
+    -- ---- the whole
+    module _ (whole : length order ≡ gateCount loose) where
+      file-read : s ≡ fileBy loose explicit order → length loose ≡ sizeOf loose → (free q : ℕ) × (fileRead s ≡ rows loose free q)
+      unfolding behind fileBy
+      file-read e size =
+          let r =
+          up-to-gates (gateLines loose order) (rows (joined (λ k. pairAt loose (5 + 2 * latchCount loose + outputCount loose + 2 * k)) (gateCount loose)) frees (length s)) e
+          (λ p a. to-end s _ _ _ frees (length s) (gates-run whole frees _ _ a) refl) in
+          (frees, length s, r ∙ ap (λ (x : List ℕ). rows x frees (length s)) (sym (made loose size)))
+
+      -- and something behind it
+      pub file-extra : (more : List ℕ) → s ≡ fileBy loose explicit order ++ more → 0 < length more
+          → fileRead s ≡ failed WrongShape (inputCount loose + latchCount loose + outputCount loose + gateCount loose + 2)
+      unfolding behind fileBy
+      file-extra more e some =
+          let g = gateLines loose order in
+          let n = inputCount loose + latchCount loose + outputCount loose + gateCount loose + 2 in
+          up-to-gates (g ++ more) (failed WrongShape n) (e ∙ append-assoc (fileTo loose explicit (outputCount loose)) g more)
+          (λ p a.
+          let w = at-split g more a in
+          past-end s _ n _ frees (p + length g) (gates-run whole frees _ _ (w .0)) (λ (z : p + length g ≡ length s). absurd (omega (arith, w .1 .place))))
+
+pub complete : (text loose : List ℕ) → IsFile text loose → (free q : ℕ) × (fileRead text ≡ rows loose free q)
+complete text loose f = file-read text loose (f .explicit) (f .numbers) (f .order) (f .once) (f .all) (f .is) (f .exact)

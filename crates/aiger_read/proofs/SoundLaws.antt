@@ -1,23 +1,31 @@
--- Of a text whose lines were read, the numbers are a netlist, and the text is its file. Assumes nothing.
-use mathlib.Core.Path.{_≡_, refl, sym, _∙_}
+-- Of a text whose lines were read, the numbers are loose, and the text is a file of them. Assumes nothing.
+use mathlib.Core.Path.{_≡_, refl, sym, ap₂, _∙_, subst}
 use mathlib.Core.Bool.{Bool, true, false}
 use mathlib.Core.List.{List}
-use Prim.Native.Nat.{ℕ, zero, suc, _+_, _≤_, _<_}
+use Prim.Native.Nat.{ℕ, zero, suc, _+_, _-_, _*_, _≤_, _<_}
 use native.Mathlib.Nat.{zero-add}
 use native.Mathlib.Omega.{arith}
-use lib.ListN.{length}
+use lib.ListN.{length, getD, replicate, length-replicate}
 use Rattle.text.specs.Writer.{joined}
-use Rattle.netlist.specs.Layout.{maximum, inputCount, latchCount, outputCount, gateCount, latchVariable, gateVariable}
+use Rattle.text.proofs.WriterLaws.{joined-same}
+use Rattle.netlist.specs.Layout.{maximum, inputCount, latchCount, outputCount, gateCount, latchVariable}
 use Rattle.netlist.specs.Literals.{literalOf}
 use Rattle.netlist.specs.Valid.{headerOk}
-use Rattle.aiger.specs.Rows.{headerRow}
-use Rattle.aiger.specs.Format.{inputLine, latchLine, outputLine, gateLine, fileWith}
+use Rattle.netlist.proofs.ValidLaws.{Header, header}
+use Rattle.gate_order.specs.Loose.{firstGate, leftOf, rightOf, Once}
+use Rattle.gate_order.proofs.LooseLaws.{Within, loose-ok}
+use Rattle.gate_order.proofs.OrderLaws.{once-all}
+use Rattle.aiger.specs.Rows.{headerRow, gateRow}
+use Rattle.aiger.specs.Format.{inputLine, latchLine, outputLine}
 use Rattle.aiger_lines.specs.Fields.{fieldsOf}
 use Rattle.aiger_lines.proofs.PlaceLaws.{At, at-join, at-joined, whole-at}
 use Rattle.aiger_lines.proofs.TextLaws.{OutputRead, misformed, output-sound}
-use Rattle.aiger_lines.proofs.NetLaws.{Laid, Says, Gates, laid-netlist}
-use Rattle.aiger_read.specs.Claims.{IsFile}
-use Rattle.aiger_read.proofs.TextLaws.{InputRead, LatchRead, GateRead, input-sound, latch-sound, gate-sound}
+use Rattle.aiger_lines.proofs.LayoutLaws.{pairAt}
+use Rattle.aiger_lines.proofs.NetLaws.{Laid, Says, laid-outline}
+use Rattle.aiger_read.specs.Lines.{undefined}
+use Rattle.aiger_read.specs.Claims.{IsFile, fileTo, gateLines, fileBy}
+use Rattle.aiger_read.proofs.TextLaws.{InputRead, LatchRead, input-sound, latch-sound}
+use Rattle.aiger_read.proofs.GateLaws.{Ran, ran}
 use Rattle.aiger_read.proofs.BodyLaws.{Body}
 
 -- what never changes
@@ -32,8 +40,14 @@ module _
     (head : At s 0 (headerRow (maximum net) (inputCount net) (latchCount net) (outputCount net) (gateCount net)) q)
     (rest : List ℕ)
     (b : Body s (maximum net) (inputCount net) (latchCount net) (outputCount net) (gateCount net) q rest)
-    (t : Laid net (b .latches .N) (b .outputs .N) (b .gates .N))
+    (t : Laid net (b .latches .N) (b .outputs .N) (λ k. pairAt (b .n4) (2 * k)))
   where
+    limits : Header (maximum net) (inputCount net) (latchCount net) (outputCount net) (gateCount net)
+    limits = header (maximum net) (inputCount net) (latchCount net) (outputCount net) (gateCount net) ok
+
+    sum : firstGate net + gateCount net ≡ maximum net + 1
+    sum = omega (arith, limits .sum)
+
     input-step : (k : ℕ) → k < inputCount net → InputRead s (literalOf (1 + k) false) (b .inputs .F k) (b .inputs .P k) (b .inputs .N k) (b .inputs .F (suc k)) (b .inputs .P (suc k))
     input-step k h = input-sound s _ _ _ _ _ (literalOf (1 + k) false) (rw zero-add at (b .inputs .steps k h))
 
@@ -43,9 +57,6 @@ module _
 
     output-step : (k : ℕ) → k < outputCount net → OutputRead s (literalOf (maximum net) true) (b .outputs .F k) (b .outputs .P k) (b .outputs .N k) (b .outputs .F (suc k)) (b .outputs .P (suc k))
     output-step k h = output-sound _ _ _ _ s _ (literalOf (maximum net) true) (b .outputs .steps k h)
-
-    gate-step : (k : ℕ) → k < gateCount net → GateRead s (literalOf (gateVariable net k) false) (b .gates .F k) (b .gates .P k) (b .gates .N k) (b .gates .F (suc k)) (b .gates .P (suc k))
-    gate-step k h = gate-sound s _ _ _ _ _ (literalOf (gateVariable net k) false) (rw zero-add at (b .gates .steps k h))
 
     -- ---- the text
 
@@ -70,15 +81,46 @@ module _
         let start : b .outputs .P 0 ≤ length s = rw (b .outputs .first-place) (latches-at .inside) in
         rw (b .outputs .first-place, b .outputs .last-place) at (at-joined {s = s} (outputLine net) (b .outputs .P) (outputCount net) start (λ k h. rw (t .output k h) (output-step k h .at)))
 
-    gates-at : At s (b .p3) (joined (gateLine net) (gateCount net)) (b .p4)
-    unfolding gateLine
-    gates-at =
-        let start : b .gates .P 0 ≤ length s = rw (b .gates .first-place) (outputs-at .inside) in
-        rw (b .gates .first-place, b .gates .last-place) at (at-joined {s = s} (gateLine net) (b .gates .P) (gateCount net) start (λ k h. rw (t .first k h, t .second k h) (gate-step k h .at)))
+    -- ---- the gates
 
-    text : s ≡ fileWith net explicit
-    unfolding fileWith
-    text = whole-at _ (b .p4) (at-join head (at-join inputs-at (at-join latches-at (at-join outputs-at gates-at)))) (b .end)
+    gates : Ran s (firstGate net) (maximum net) (gateCount net) (replicate (2 * gateCount net) undefined) (gateCount net) (b .f3) (b .p3) (b .n4) (b .f4) (b .p4)
+    gates =
+        ran s (firstGate net) (maximum net) (gateCount net) (limits .small) sum (replicate (2 * gateCount net) undefined) (gateCount net) _ (b .f3) (b .p3) (b .n4) (b .f4) (b .p4)
+        (length-replicate (2 * gateCount net) undefined) (b .gates)
+
+    once : Once net (gates .order)
+    once =
+        record {
+          inside = λ k l. let i = gates .apart .inside k l in (i .0, omega (arith, sum, i .1));
+          once = gates .apart .once;
+        }
+
+    -- the operands of a gate are those that its line has
+    operands : (x : ℕ) → firstGate net ≤ x → x < firstGate net + gateCount net
+        → (getD (b .n4) (2 * (x - firstGate net)) 0 ≡ leftOf net x) × (getD (b .n4) (2 * (x - firstGate net) + 1) 0 ≡ rightOf net x)
+    operands x l u = let k : x - firstGate net < gateCount net = omega arith in (sym (t .first (x - firstGate net) k), sym (t .second (x - firstGate net) k))
+
+    gates-at : At s (b .p3) (gateLines net (gates .order)) (b .p4)
+    unfolding gateLines
+    gates-at =
+        subst (λ (u : List ℕ). At s (b .p3) u (b .p4))
+        (joined-same _ _ (length (gates .order))
+        (λ k l.
+        let i = once .inside k l in
+        let o = operands (getD (gates .order) k 0) (i .0) (i .1) in
+        ap₂ (gateRow (literalOf (getD (gates .order) k 0) false)) (o .0) (o .1)))
+        (gates .at (outputs-at .inside))
+
+    within : (k : ℕ) → k < gateCount net → Within net k
+    within k l =
+        let w = once-all net (gates .order) once (gates .size) (firstGate net + k) (omega arith) (omega arith) in
+        let n : firstGate net + k - firstGate net ≡ k = omega arith in
+        let f = gates .fits (w .0) (w .1) in
+        (rw (w .2, n, ← (t .first k l)) at (f .0), rw (w .2, n, ← (t .second k l)) at (f .1))
+
+    text : s ≡ fileBy net explicit (gates .order)
+    unfolding fileBy fileTo
+    text = whole-at _ (b .p4) (at-join (at-join head (at-join inputs-at (at-join latches-at outputs-at))) gates-at) (b .end)
 
     -- ---- the netlist
 
@@ -93,12 +135,14 @@ module _
           outputs = λ k h. output-step k h .within;
         }
 
-    gates : Gates net (b .gates .N)
-    gates =
-        record {
-          below = λ k h. gate-step k h .below;
-          order = λ k h. gate-step k h .order;
-        }
-
     pub is-file : IsFile s net
-    is-file = record { netlist = laid-netlist net ok t says gates; exact = t .size; explicit = explicit; is = text }
+    is-file =
+        record {
+          numbers = loose-ok net (laid-outline net ok t says) within;
+          exact = t .size;
+          explicit = explicit;
+          order = gates .order;
+          once = once;
+          all = gates .size;
+          is = text;
+        }

@@ -1,22 +1,28 @@
 -- The lines of the ASCII format are read just where their texts stand and their numbers fit. Assumes nothing.
-use mathlib.Core.Path.{_≡_, refl, sym, ap, _∙_, subst}
+use mathlib.Core.Path.{_≡_, refl, sym, _∙_, subst}
 use mathlib.Core.Bool.{Bool, true, false, cond, not, _&&_, and-false}
 use mathlib.Core.List.{List, [], _∷_}
-use Prim.Native.Nat.{ℕ, _≤_, _<_}
+use mathlib.Core.Logic.{_⊎_, inl, inr}
+use Prim.Native.Nat.{ℕ, _-_, _*_, _≤_, _<_}
 use native.Mathlib.Omega.{arith}
-use borrow.Author.Tests.{leb-true, eqb-true, ltb-true, le-leb, eq-eqb, lt-ltb}
-use lib.Dec.{eqb, leb, ltb}
-use lib.ListN.{length, getD, List·getD-eq-default}
+use borrow.Author.Tests.{eqb-true, eq-eqb, ne-eqb}
+use lib.Dec.{eqb}
+use lib.ListN.{getD, List·getD-eq-default}
+use lib.Seq.{sets}
+use Rattle.netlist.specs.Literals.{literalOf, variableOf}
+use Rattle.netlist.proofs.LiteralLaws.{literal-plain, literal-inverted, variable-literal}
 use Rattle.netlist.proofs.EachLaws.{both}
 use Rattle.aiger.specs.Rows.{line, literalRow, latchRow, gateRow}
 use Rattle.aiger_lines.specs.declared.Fault.the-variants.{WrongShape, OutOfLimits}
 use Rattle.aiger_lines.specs.Fields.{Fields, wrong, fields, fieldsOf, eitherOf}
 use Rattle.aiger_lines.specs.Lines.{row, fault, judged, latchSays}
 use Rattle.aiger_lines.proofs.LineLaws.{or-fewer, or-more, fields-length}
+use Rattle.aiger_lines.proofs.LimitLaws.{says-none}
 use Rattle.aiger_lines.proofs.PlaceLaws.{At}
 use Rattle.aiger_lines.proofs.FieldLaws.{lineOf, Small, fields-stand, stand-fields, not-fewer}
-use Rattle.aiger_lines.proofs.TextLaws.{judged-row, cond-row, fault-row, two, three, misformed, one-at, LatchSays, says-sound, judged-none}
-use Rattle.aiger_read.specs.Lines.{inputAt, latchAt, gateFits, gateAt}
+use Rattle.aiger_lines.proofs.TextLaws.{judged-row, cond-row, fault-row, two, three, misformed, one-at, LatchSays, says-sound, judged-none, either-none, no-one, no-two, no-three}
+use Rattle.aiger_read.specs.Lines.{inputAt, latchAt, gatePlace, gateFits, gateAt}
+use Rattle.aiger_read.proofs.RowLaws.{GateFits, gate-tests, tests-gate}
 
 -- ---- sound: what a line that was read says of its text and its numbers
 
@@ -30,12 +36,14 @@ pub record LatchRead (s : List ℕ) (last lit f p : ℕ) (ns : List ℕ) (f′ q
   pub says : LatchSays last lit f ns f′
   pub at : At s p (latchRow (misformed (fieldsOf s 1 p)) lit (getD ns 0 0) (getD ns 1 0)) q
 
-pub record GateRead (s : List ℕ) (lit f p : ℕ) (ns : List ℕ) (f′ q : ℕ) : Type 0 where
-  pub two : length ns ≡ 2
+pub record GateRead (s : List ℕ) (first m : ℕ) (ops : List ℕ) (f p : ℕ) (ns : List ℕ) (f′ q : ℕ) : Type 0 where
+  pub var : ℕ
+  pub r0 : ℕ
+  pub r1 : ℕ
+  pub fits : GateFits first m ops (literalOf var false) r0 r1
   pub free : f′ ≡ f
-  pub at : At s p (gateRow lit (getD ns 0 0) (getD ns 1 0)) q
-  pub below : getD ns 0 0 < lit
-  pub order : getD ns 1 0 ≤ getD ns 0 0
+  pub at : At s p (gateRow (literalOf var false) r0 r1) q
+  pub stores : ns ≡ sets ops (2 * (var - first)) (r0 ∷ r1 ∷ [])
 
 module _ (s : List ℕ) (f p : ℕ) (ns : List ℕ) (f′ q : ℕ) where
   pub input-sound : (lit : ℕ) → inputAt s lit f p ≡ row ns f′ q → InputRead s lit f p ns f′ q
@@ -51,13 +59,6 @@ module _ (s : List ℕ) (f p : ℕ) (ns : List ℕ) (f′ q : ℕ) where
   three-at : (vs : List ℕ) (r : ℕ) → fieldsOf s 2 p ≡ fields vs r → At s p (gateRow (getD vs 0 0) (getD vs 1 0) (getD vs 2 0)) r
   unfolding gateRow lineOf
   three-at vs r e = subst (λ (l : List ℕ). At s p (lineOf l) r) (three vs (fields-length s 2 p vs r e)) (fields-stand s 2 p vs r e .at)
-
-  gate-tests : (lit : ℕ) (vs : List ℕ) → gateFits lit vs ≡ true → (getD vs 0 0 ≡ lit) × (getD vs 1 0 < lit) × (getD vs 2 0 ≤ getD vs 1 0)
-  unfolding gateFits
-  gate-tests lit vs h =
-      let b1 = both (eqb (getD vs 0 0) lit) (ltb (getD vs 1 0) lit && leb (getD vs 2 0) (getD vs 1 0)) h in
-      let b2 = both (ltb (getD vs 1 0) lit) (leb (getD vs 2 0) (getD vs 1 0)) (b1 .1) in
-      (eqb-true (getD vs 0 0) lit (b1 .0), ltb-true (getD vs 1 0) lit (b2 .0), leb-true (getD vs 2 0) (getD vs 1 0) (b2 .1))
 
   shape-three : (vs : List ℕ) (r : ℕ) → fieldsOf s 2 p ≡ fields vs r → At s p (latchRow true (getD vs 0 0) (getD vs 1 0) (getD vs 2 0)) r
   unfolding latchRow lineOf
@@ -80,22 +81,24 @@ module _ (s : List ℕ) (f p : ℕ) (ns : List ℕ) (f′ q : ℕ) where
           let same : fields ws z ≡ fields vs r = sym (or-fewer s 1 p ws z h) ∙ e in
           shape-two vs r (h ∙ same)
 
-  pub gate-sound : (lit : ℕ) → gateAt s lit f p ≡ row ns f′ q → GateRead s lit f p ns f′ q
-  unfolding gateAt
-  gate-sound lit h = judged-row _ (fieldsOf s 2 p) _ ns f′ q h from
+  pub gate-sound : (first m : ℕ) (ops : List ℕ) → gateAt s first m ops f p ≡ row ns f′ q → GateRead s first m ops f p ns f′ q
+  unfolding gateAt gatePlace
+  gate-sound first m ops h = judged-row _ (fieldsOf s 2 p) _ ns f′ q h from
     where
-      from : (vs : List ℕ) (r : ℕ) → fieldsOf s 2 p ≡ fields vs r → cond (gateFits lit vs) (row (getD vs 1 0 ∷ getD vs 2 0 ∷ []) f r) (fault OutOfLimits) ≡ row ns f′ q → GateRead s lit f p ns f′ q
+      from : (vs : List ℕ) (r : ℕ) → fieldsOf s 2 p ≡ fields vs r
+          → cond (gateFits first m ops vs) (row (sets ops (2 * (variableOf (getD vs 0 0) - first)) (getD vs 1 0 ∷ getD vs 2 0 ∷ [])) f r) (fault OutOfLimits) ≡ row ns f′ q
+          → GateRead s first m ops f p ns f′ q
       from vs r e g =
-          let c = cond-row (gateFits lit vs) OutOfLimits (getD vs 1 0 ∷ getD vs 2 0 ∷ []) f r ns f′ q g in
-          let t = gate-tests lit vs (c .0) in
-          let n0 : getD ns 0 0 ≡ getD vs 1 0 = ap (λ (l : List ℕ). getD l 0 0) (sym (c .1)) in
-          let n1 : getD ns 1 0 ≡ getD vs 2 0 = ap (λ (l : List ℕ). getD l 1 0) (sym (c .1)) in
+          let c = cond-row (gateFits first m ops vs) OutOfLimits (sets ops (2 * (variableOf (getD vs 0 0) - first)) (getD vs 1 0 ∷ getD vs 2 0 ∷ [])) f r ns f′ q g in
+          let t = gate-tests first m ops vs (c .0) in
           record {
-            two = ap length (sym (c .1));
+            var = variableOf (getD vs 0 0);
+            r0 = getD vs 1 0;
+            r1 = getD vs 2 0;
+            fits = subst (λ (v : ℕ). GateFits first m ops v (getD vs 1 0) (getD vs 2 0)) (t .own) t;
             free = sym (c .2);
-            at = rw (n0, n1, ← (c .3)) (rw (t .0) at (three-at vs r e));
-            below = rw n0 (t .1);
-            order = rw (n0, n1) (t .2);
+            at = rw (← (c .3)) (subst (λ (v : ℕ). At s p (gateRow v (getD vs 1 0) (getD vs 2 0)) r) (t .own) (three-at vs r e));
+            stores = sym (c .1);
           }
 
   pub latch-sound : (last lit : ℕ) → latchAt s last lit f p ≡ row ns f′ q → LatchRead s last lit f p ns f′ q
@@ -121,10 +124,14 @@ module _ (s : List ℕ) (f p q : ℕ) where
   unfolding inputAt literalRow judged Small
   input-complete lit m a = rw (stand-fields s [] lit p q (m, tt) a, eq-eqb lit lit refl)
 
-  pub gate-complete : (lit r0 r1 : ℕ) → lit < 100000 → r0 < lit → r1 ≤ r0 → At s p (gateRow lit r0 r1) q → gateAt s lit f p ≡ row (r0 ∷ r1 ∷ []) f q
-  unfolding gateAt gateFits gateRow judged Small
-  gate-complete lit r0 r1 m h g a =
-      rw (stand-fields s (r0 ∷ r1 ∷ []) lit p q (m, (omega arith, (omega arith, tt))) a, eq-eqb lit lit refl, lt-ltb r0 lit h, le-leb r1 r0 g)
+  pub gate-complete : (first m : ℕ) (ops : List ℕ) (var r0 r1 : ℕ) → m ≤ 4095 → GateFits first m ops (literalOf var false) r0 r1
+      → At s p (gateRow (literalOf var false) r0 r1) q → gateAt s first m ops f p ≡ row (sets ops (2 * (var - first)) (r0 ∷ r1 ∷ [])) f q
+  unfolding gateAt gatePlace gateRow judged Small
+  gate-complete first m ops var r0 r1 h t a =
+      let v = variable-literal var false in
+      let o : literalOf var false < 100000 = omega (arith, literal-plain var, v, t .to) in
+      let i = literal-inverted m in
+      rw (stand-fields s (r0 ∷ r1 ∷ []) (literalOf var false) p q (o, (omega (arith, t .left), (omega (arith, t .right), tt))) a, tests-gate first m ops (literalOf var false) r0 r1 t, v)
 
   latch-three : (lit next reset : ℕ) → Small (lit ∷ next ∷ reset ∷ []) → At s p (line lit (next ∷ reset ∷ [])) q → eitherOf s 1 p ≡ fields (lit ∷ next ∷ reset ∷ []) q
   latch-three lit next reset m a = or-more s 1 p (not-fewer s (next ∷ []) lit reset p q m a) ∙ stand-fields s (next ∷ reset ∷ []) lit p q m a
@@ -150,12 +157,49 @@ module _ (s : List ℕ) (f p q : ℕ) where
       let n = latch-numbers explicit lit next reset m1 m2 m3 a in
       rw (n .1, n .2, n .3, n .4, eq-eqb lit lit refl)
 
--- ---- faulty: a gate's line without its numbers
+-- ---- faulty: a line without its numbers, or with numbers that do not fit
 
-pub gate-wrong : (s : List ℕ) (f p lit : ℕ) → ((v r0 r1 r : ℕ) → (v < 100000) × (r0 < 100000) × (r1 < 100000) → At s p (gateRow v r0 r1) r → ⊥) → gateAt s lit f p ≡ fault WrongShape
-unfolding gateAt Small
-gate-wrong s f p lit none =
-    judged-none s 2 p _
-    (λ vs r e.
-    let few = subst Small (three vs (fields-length s 2 p vs r e)) (fields-stand s 2 p vs r e .small) in
-    none (getD vs 0 0) (getD vs 1 0) (getD vs 2 0) r (few .0, few .1 .0, few .1 .1 .0) (three-at s f p [] f r vs r e))
+module _ (s : List ℕ) (f p lit : ℕ) where
+  pub input-wrong : ((v r : ℕ) → v < 100000 → At s p (literalRow v) r → ⊥) → inputAt s lit f p ≡ fault WrongShape
+  unfolding inputAt literalRow
+  input-wrong none = judged-none s 0 p _ (no-one s p none)
+
+  pub input-misfit : (v q : ℕ) → v < 100000 → (v ≡ lit → ⊥) → At s p (literalRow v) q → inputAt s lit f p ≡ fault OutOfLimits
+  unfolding inputAt literalRow judged Small
+  input-misfit v q m n a = rw (stand-fields s [] v p q (m, tt) a, ne-eqb v lit n)
+
+  module _ (last : ℕ) where
+    pub latch-wrong : ((v w r : ℕ) → (v < 100000) × (w < 100000) → At s p (line v (w ∷ [])) r → ⊥)
+        → ((v w x r : ℕ) → (v < 100000) × (w < 100000) × (x < 100000) → At s p (gateRow v w x) r → ⊥) → latchAt s last lit f p ≡ fault WrongShape
+    unfolding latchAt gateRow
+    latch-wrong none nor = either-none s 1 p _ (no-two s p none) (no-three s p nor)
+
+    pub latch-misfit : (explicit : Bool) (v next reset q : ℕ) → (v < 100000) × (next < 100000) × (reset < 100000) → At s p (latchRow explicit v next reset) q
+        → (v ≡ lit → ⊥) ⊎ ((last < next) ⊎ ((1 < reset) × ((reset ≡ lit → ⊥) ⊎ (6 ≤ f)))) → latchAt s last lit f p ≡ fault OutOfLimits
+    unfolding latchAt judged
+    latch-misfit explicit v next reset q few a misfit =
+        let n = latch-numbers s f p q explicit v next reset (few .0) (few .1) (few .2) a in
+        rw (n .1, n .2, n .3, n .4) (go misfit)
+      where
+        either : (t : Bool) → cond t (fault OutOfLimits) (fault OutOfLimits) ≡ fault OutOfLimits
+        either true = refl
+        either false = refl
+
+        go : (v ≡ lit → ⊥) ⊎ ((last < next) ⊎ ((1 < reset) × ((reset ≡ lit → ⊥) ⊎ (6 ≤ f))))
+            → cond (eqb v lit) (latchSays last lit f next reset q) (fault OutOfLimits) ≡ fault OutOfLimits
+        go (inl n) = rw (ne-eqb v lit n)
+        go (inr n) = rw (says-none last lit f next reset q n) (either (eqb v lit))
+
+module _ (s : List ℕ) (first m : ℕ) (ops : List ℕ) (f p : ℕ) where
+  pub gate-wrong : ((v r0 r1 r : ℕ) → (v < 100000) × (r0 < 100000) × (r1 < 100000) → At s p (gateRow v r0 r1) r → ⊥) → gateAt s first m ops f p ≡ fault WrongShape
+  unfolding gateAt gateRow
+  gate-wrong none = judged-none s 2 p _ (no-three s p none)
+
+  pub gate-misfit : (lit r0 r1 q : ℕ) → (lit < 100000) × (r0 < 100000) × (r1 < 100000) → At s p (gateRow lit r0 r1) q
+      → (GateFits first m ops lit r0 r1 → ⊥) → gateAt s first m ops f p ≡ fault OutOfLimits
+  unfolding gateAt gateRow judged Small
+  gate-misfit lit r0 r1 q few a none = rw (stand-fields s (r0 ∷ r1 ∷ []) lit p q (few .0, (few .1, (few .2, tt))) a, no (gateFits first m ops (lit ∷ r0 ∷ r1 ∷ [])) refl)
+    where
+      no : (t : Bool) → gateFits first m ops (lit ∷ r0 ∷ r1 ∷ []) ≡ t → gateFits first m ops (lit ∷ r0 ∷ r1 ∷ []) ≡ false
+      no true e = absurd (none (gate-tests first m ops (lit ∷ r0 ∷ r1 ∷ []) e))
+      no false e = e

@@ -1,7 +1,9 @@
-// One pass over a file. A number past the buffer's end is dropped, so that a pass over no numbers tells
-// how many there are.
+// One pass over a file.
 use crate::Block;
+use crate::GateRead;
 use crate::Kind;
+use crate::lines::UNDEFINED;
+use crate::lines::gate_line;
 use crate::lines::line_of;
 use aiger_lines::Cursor;
 use aiger_lines::Fault;
@@ -13,10 +15,13 @@ use aiger_lines::header_at;
 use aiger_lines::store_given;
 use aiger_lines::store_head;
 use netlist::Variable;
+ghost use mathlib.Core.Path.{_≡_};
 ghost use Prim.Native.Nat.{_+_, _*_, _≤_};
-ghost use Rattle.aiger_lines.specs.Private.Steps.{Took, Within, Counted};
+ghost use lib.ListN.{length, replicate};
+ghost use Rattle.aiger_lines.specs.Private.Steps.{Took, Within};
+ghost use Rattle.aiger_read.specs.Lines.{undefined};
 ghost use Rattle.aiger_read.specs.Files.{fileRead};
-ghost use Rattle.aiger_read.specs.Private.Steps.{firstOf, blockOf, inputsOf, latchesOf, outputsOf, gatesOf};
+ghost use Rattle.aiger_read.specs.Private.Steps.{firstOf, blockOf, Filled, Headed, HasRoom, most, gateBlock, inputsOf, latchesOf, outputsOf, gatesOf};
 
 // How many numbers the header gives.
 const HEADER: usize = 5;
@@ -53,23 +58,66 @@ fn block_at(s: &[u8], net: &mut [u16], block: Block, from: Cursor) -> Passed
     })
 }
 
+// No gate is defined yet.
+fn undefine(ops: &mut [u16])
+    ensures { λ _. ⌜ now (ops .exit) ≡ replicate (length (now (ops .entry))) undefined ⌝ }
+{
+    for k in 0..ops.len() {
+        ops[k] = UNDEFINED;
+    }
+}
+
+// The lines of gates, whose operands stand in a buffer of their own.
+fn gate_lines(s: &[u8], ops: &mut [u16], head: Head, from: Cursor) -> Passed
+    requires { ⌜ Headed head × (length (now ops) ≡ 2 * head .gates) × (from .place ≤ 50000) ⌝ }
+    ensures { λ r. ⌜ Filled (gateBlock (now (s .entry)) head (now (ops .entry)) (from .free) (from .at)) (now (ops .exit)) (from .place) r ⌝ }
+{
+    let first = Variable(head.inputs + head.latches + 1);
+    let last = Variable(head.variables);
+    let line = head.inputs as u32 + head.latches as u32 + head.outputs as u32 + 2;
+    let mut at = from.at;
+    for k in 0..head.gates {
+        match gate_line(s, ops, first, last, at) {
+            GateRead::Next(next) => {
+                at = next;
+            }
+            GateRead::Bad(fault) => {
+                return Passed::Failed(fault, line + k as u32);
+            }
+        }
+    }
+    Passed::Past(Cursor {
+        free: from.free,
+        at: at,
+        place: from.place + ops.len(),
+    })
+}
+
+// All gates, in whatever order their lines come.
+fn all_gates(s: &[u8], ops: &mut [u16], head: Head, from: Cursor) -> Passed
+    requires { ⌜ Headed head × (length (now ops) ≡ 2 * head .gates) × (from .place ≤ 50000) ⌝ }
+    ensures { λ r. ⌜ Filled (gateBlock (now (s .entry)) head (replicate (2 * head .gates) undefined) (from .free) (from .at)) (now (ops .exit)) (from .place) r ⌝ }
+{
+    undefine(ops);
+    gate_lines(s, ops, head, from)
+}
+
 // From the gates on. Nothing stands after them.
 fn gates_at(s: &[u8], net: &mut [u16], head: Head, from: Cursor) -> Passed
-    requires { ⌜ Counted head × (from .place ≤ 30000) ⌝ }
+    requires { ⌜ Headed head × HasRoom (now net) (from .place) (head .gates) ⌝ }
     ensures { λ r. ⌜ Took (gatesOf (now (s .entry)) head (from .free) (from .at)) (now (net .entry)) (now (net .exit)) (from .place) r ⌝ }
 {
-    let line = head.inputs as u32 + head.latches as u32 + head.outputs as u32 + 2;
-    let gates = Block {
-        kind: Kind::Gate(Variable(head.inputs + head.latches + 1)),
-        count: head.gates,
-        line: line,
-    };
-    match block_at(s, net, gates, from) {
+    let start = from.place;
+    let after = start + 2 * head.gates as usize;
+    match all_gates(s, &mut net[start..after], head, from) {
         Passed::Past(end) => {
             if end.at == s.len() {
                 Passed::Past(end)
             } else {
-                Passed::Failed(Fault::WrongShape, line + head.gates as u32)
+                Passed::Failed(
+                    Fault::WrongShape,
+                    head.variables as u32 + head.outputs as u32 + 2,
+                )
             }
         }
         Passed::Failed(fault, n) => Passed::Failed(fault, n),
@@ -78,7 +126,7 @@ fn gates_at(s: &[u8], net: &mut [u16], head: Head, from: Cursor) -> Passed
 
 // From the outputs on.
 fn outputs_at(s: &[u8], net: &mut [u16], head: Head, from: Cursor) -> Passed
-    requires { ⌜ Counted head × (from .place ≤ 20000) ⌝ }
+    requires { ⌜ Headed head × HasRoom (now net) (from .place) (head .outputs + head .gates) ⌝ }
     ensures { λ r. ⌜ Took (outputsOf (now (s .entry)) head (from .free) (from .at)) (now (net .entry)) (now (net .exit)) (from .place) r ⌝ }
 {
     let last = Variable(head.variables).literal(true);
@@ -95,7 +143,7 @@ fn outputs_at(s: &[u8], net: &mut [u16], head: Head, from: Cursor) -> Passed
 
 // From the latches on.
 fn latches_at(s: &[u8], net: &mut [u16], head: Head, from: Cursor) -> Passed
-    requires { ⌜ Counted head × (from .place ≤ 10000) ⌝ }
+    requires { ⌜ Headed head × HasRoom (now net) (from .place) (head .latches + head .outputs + head .gates) ⌝ }
     ensures { λ r. ⌜ Took (latchesOf (now (s .entry)) head (from .free) (from .at)) (now (net .entry)) (now (net .exit)) (from .place) r ⌝ }
 {
     let last = Variable(head.variables).literal(true);
@@ -112,7 +160,7 @@ fn latches_at(s: &[u8], net: &mut [u16], head: Head, from: Cursor) -> Passed
 
 // From the inputs on.
 fn inputs_at(s: &[u8], net: &mut [u16], head: Head) -> Passed
-    requires { ⌜ Counted head ⌝ }
+    requires { ⌜ Headed head × (length (now net) ≡ most) ⌝ }
     ensures { λ r. ⌜ Took (inputsOf (now (s .entry)) head) (now (net .entry)) (now (net .exit)) 5 r ⌝ }
 {
     let inputs = Block {
@@ -133,6 +181,7 @@ fn inputs_at(s: &[u8], net: &mut [u16], head: Head) -> Passed
 
 // The whole file.
 pub(crate) fn read_file(s: &[u8], net: &mut [u16]) -> Passed
+    requires { ⌜ length (now net) ≡ most ⌝ }
     ensures { λ r. ⌜ Took (fileRead (now (s .entry))) (now (net .entry)) (now (net .exit)) 0 r ⌝ }
 {
     match header_at(s, b'a') {

@@ -1,8 +1,8 @@
 // What an example gives, appended to a buffer.
 use aiger::Written;
+use aiger_file::ReadOutcome;
 use builder::Built;
 use calls::Tally;
-use packed_read::ReadOutcome;
 use simulator::Ran;
 use simulator::RunOutcome;
 use text::Refusal;
@@ -47,7 +47,7 @@ fn put_same(out: &mut [u8], at: usize, again: &[u8], text: &[u8], other: &[u8]) 
         return text::put_bytes(out, at, b"same text, ");
     }
     if check::same(again, other) {
-        return text::put_bytes(out, at, b"resets 0 left out, ");
+        return text::put_bytes(out, at, b"written as expected, ");
     }
     text::put_bytes(out, at, b"another text, ")
 }

@@ -130,7 +130,7 @@ fn all_examples(input: &[u8]) {
 }
 
 fn main() {
-    let mut input = [0u8; 16384];
+    let mut input = [0u8; 32768];
     let n = io::read_full(STDIN, &mut input);
     all_examples(&input[..n]);
 }

@@ -7,12 +7,11 @@ use lib.ListN.{length, getD, drop}
 use Rattle.aiger.specs.Write as write
 use Rattle.aiger.specs.Write.{WriteEnd}
 use Rattle.aiger.proofs.WriteLaws.{no-netlist, too-short, written}
-use Rattle.packed_read.specs.declared.Cause.{Cause}
-use Rattle.packed_read.specs.declared.ReadOutcome.{ReadOutcome}
-use Rattle.packed_read.specs.declared.ReadOutcome.the-variants.{Numbers, Refused}
-use Rattle.packed_read.specs.Read as read
-use Rattle.packed_read.specs.Read.{ReadEnd, readEnd}
-use Rattle.aiger_file.specs.Read.{readOf}
+use Rattle.aiger_file.specs.declared.Cause.{Cause}
+use Rattle.aiger_file.specs.declared.ReadOutcome.{ReadOutcome}
+use Rattle.aiger_file.specs.declared.ReadOutcome.the-variants.{Numbers, Refused}
+use Rattle.aiger_file.specs.Read as read
+use Rattle.aiger_file.specs.Read.{ReadEnd, readEnd, readOf}
 use Rattle.aiger_file.specs.Claims.{IsFile, ReadMeans}
 use Rattle.ludopoplar.specs.Codes.{codeOf}
 use Rattle.ludopoplar.specs.Circuits as circuits
@@ -48,7 +47,7 @@ module _ (means : ReadMeans) (text before : List ℕ) (each : (k : ℕ) → getD
       let e : readOf text before ≡ readEnd (Numbers n) (readOf text before .net) = ap (λ (a : ReadOutcome). readEnd a (readOf text before .net)) h in
       let x = means .only text before n (readOf text before .net) each e in
       let read : end ≡ filled 0 (readOf text before .net) n = ends (readEnd (Numbers n) (readOf text before .net)) e in
-      (x .0, x .1, read ∙ ap₂ (filled 0) (x .3 ∙ ap (λ (k : ℕ). x .0 ++ drop k before) (x .2)) (x .2))
+      (x .0, x .1, read ∙ ap₂ (filled 0) (x .4 ∙ ap (λ (k : ℕ). x .0 ++ drop k before) (x .3)) (x .3))
   only-as (Refused cause) h z =
       let c : end .code ≡ codeOf (read.refusalOf cause) = ap (λ (f : Filled). f .code) (refused cause (means .kept text before cause h)) in
       absurd (omega (arith, numbered .read-numbered cause))
@@ -59,6 +58,7 @@ module _ (means : ReadMeans) (text before : List ℕ) (each : (k : ℕ) → getD
       record {
         taken = λ net f l. ends _ (means .takes text net before f l);
         short = λ net f l. ends _ (means .short text net before f l);
+        waits = λ w. ends _ (means .waits text before w);
         long = λ l. ends _ (means .long text before l);
         only = only-as (readOf text before .answer) refl;
         refused = λ cause h. refused cause (means .kept text before cause h);

@@ -15,9 +15,9 @@ use Rattle.aiger.specs.declared.Cause as aiger
 use Rattle.aiger.specs.declared.Cause.the-variants as written
 use Rattle.aiger.specs.Write as write
 use Rattle.aiger_lines.specs.declared.Fault.the-variants as faulty
-use Rattle.packed_read.specs.declared.Cause as aigerRead
-use Rattle.packed_read.specs.declared.Cause.the-variants as taken
-use Rattle.packed_read.specs.Read as read
+use Rattle.aiger_file.specs.declared.Cause as aigerFile
+use Rattle.aiger_file.specs.declared.Cause.the-variants as taken
+use Rattle.aiger_file.specs.Read as read
 use Rattle.calls.specs.declared.refusal.Cause as simulator
 use Rattle.calls.specs.declared.refusal.Cause.the-variants as ran
 use Rattle.calls.specs.Refusals as runs
@@ -62,7 +62,7 @@ unfolding write.refusalOf
 writes written.ShortBuffer = omega arith
 writes written.NotNetlist = omega arith
 
-reads : (cause : aigerRead.Cause) → 1 ≤ read.refusalOf cause .number
+reads : (cause : aigerFile.Cause) → 1 ≤ read.refusalOf cause .number
 unfolding read.refusalOf
 reads taken.TextTooLong = omega arith
 reads taken.ShortBuffer = omega arith
@@ -70,6 +70,7 @@ reads (taken.FaultyLine faulty.WrongShape line) = omega arith
 reads (taken.FaultyLine faulty.OutOfLimits line) = omega arith
 reads (taken.FaultyRun faulty.WrongShape) = omega arith
 reads (taken.FaultyRun faulty.OutOfLimits) = omega arith
+reads taken.WaitingGates = omega arith
 
 starts : (cause : simulator.Cause) → 1 ≤ runs.refusalOf cause .number
 unfolding runs.refusalOf

@@ -12,10 +12,10 @@ use Rattle.aiger.specs.Write.{WriteEnd, writeOf}
 use Rattle.packed.specs.Format.{packedOf}
 use Rattle.aiger.specs.declared.Written.{Written}
 use Rattle.aiger.specs.declared.Written.the-variants as written
-use Rattle.packed_read.specs.Read as read
-use Rattle.packed_read.specs.declared.ReadOutcome.{ReadOutcome}
-use Rattle.packed_read.specs.declared.ReadOutcome.the-variants as outcome
+use Rattle.aiger_file.specs.Read as read
 use Rattle.aiger_file.specs.Read.{readOf}
+use Rattle.aiger_file.specs.declared.ReadOutcome.{ReadOutcome}
+use Rattle.aiger_file.specs.declared.ReadOutcome.the-variants as outcome
 use Rattle.ludopoplar.specs.Codes.{acceptedCode, codeOf}
 
 -- the return code, the lent numbers or bytes, and the result

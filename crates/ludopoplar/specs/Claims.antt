@@ -9,8 +9,8 @@ use Rattle.builder.specs.declared.Cause as builder
 use Rattle.builder.specs.Build as build
 use Rattle.aiger.specs.declared.Cause as aiger
 use Rattle.aiger.specs.Write as write
-use Rattle.packed_read.specs.declared.Cause as aigerRead
-use Rattle.packed_read.specs.Read as read
+use Rattle.aiger_file.specs.declared.Cause as aigerFile
+use Rattle.aiger_file.specs.Read as read
 use Rattle.calls.specs.declared.refusal.Cause as simulator
 use Rattle.calls.specs.Refusals as runs
 use Rattle.rate.specs.declared.Cause as rate
@@ -30,7 +30,7 @@ use Rattle.ludopoplar.specs.Rates.{RateCallEnd, rateCallEnd}
 pub record Numbered : Type 0 where
   pub build-numbered : (cause : builder.Cause) → 1 ≤ build.refusalOf cause .number
   pub write-numbered : (cause : aiger.Cause) → 1 ≤ write.refusalOf cause .number
-  pub read-numbered : (cause : aigerRead.Cause) → 1 ≤ read.refusalOf cause .number
+  pub read-numbered : (cause : aigerFile.Cause) → 1 ≤ read.refusalOf cause .number
   pub run-numbered : (cause : simulator.Cause) → 1 ≤ runs.refusalOf cause .number
   pub rate-numbered : (cause : rate.Cause) → 1 ≤ rates.refusalOf cause .number
   pub check-numbered : (cause : broken.Cause) → 1 ≤ sessions.refusalOf cause .number

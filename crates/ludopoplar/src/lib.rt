@@ -15,10 +15,10 @@
 mod checked;
 
 use aiger::Written;
+use aiger_file::ReadOutcome;
 use builder::Built;
 use calls::Tally;
 use first_broken::Checked;
-use packed_read::ReadOutcome;
 use rate::Rated;
 use session_page::Laid;
 use simulator::RunOutcome;

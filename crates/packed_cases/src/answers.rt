@@ -5,7 +5,7 @@ use crate::output::write_number;
 use crate::output::write_numbers;
 use crate::output::write_refusal;
 use aiger::Written;
-use packed_read::ReadOutcome;
+use aiger_file::ReadOutcome;
 ghost use Prim.Native.Nat.{_≤_};
 
 // Room for every file, and for the numbers of every netlist.

@@ -19,6 +19,9 @@ enum-told-3 c = search needs
 enum-told-4 : tie.Need-enum-told-4
 enum-told-4 c = search needs
 
+enum-told-5 : tie.Need-enum-told-5
+enum-told-5 c = search needs
+
 returns : tie.Need-returns
 unfolding refusalOf
 returns c = rw (c .enum-told .given .1)
@@ -35,6 +38,10 @@ returns-4 : tie.Need-returns-4
 unfolding refusalOf
 returns-4 c = rw (c .before .before .before .self .given .1, c .enum-told4 .given .1)
 
+returns-5 : tie.Need-returns-5
+unfolding refusalOf
+returns-5 c = rw (c .enum-told5 .given .1)
+
 pub refusal-spec : {M : Type 1} → statement M
 refusal-spec =
     tie.close
@@ -44,7 +51,9 @@ refusal-spec =
     enum-known-self
     enum-told-3
     enum-told-4
+    enum-told-5
     returns
     returns-2
     returns-3
-    returns-4)
+    returns-4
+    returns-5)

@@ -1,46 +1,53 @@
 -- `gates_at` meets its contract. Assumes nothing.
+use Prim.Native.Nat.{_+_, _*_, _≤_}
 use native.Mathlib.Omega.{arith}
+use denote.Ref.{now}
+use lib.ListN.{length}
 use Rattle.aiger_lines.proofs.PassLaws.{took-then, took-failed, took-end, took-extra}
-use Rattle.aiger_read.specs.Private.Steps.{kindAt, blockOf, gatesOf}
+use Rattle.aiger_read.specs.Private.Steps.{gatesOf}
+use Rattle.aiger_read.proofs.PassLaws.{filled-took}
 use borrow.Author.Needs.{needs}
 use Rattle.aiger_read.proofs.files.gates_at.Statement.{statement}
 use Rattle.aiger_read.proofs.files.gates_at.Tie as tie
 
-cast-line : tie.Need-cast-line
-cast-line c = search needs
+cast-after : tie.Need-cast-after
+cast-after c = search needs
 
-cast-line-2 : tie.Need-cast-line-2
-cast-line-2 c = search needs
+mul-after : tie.Need-mul-after
+mul-after c = search needs
 
-add-line : tie.Need-add-line
-add-line c = search needs
+add-after : tie.Need-add-after
+add-after c = search needs
 
-cast-line-3 : tie.Need-cast-line-3
-cast-line-3 c = search needs
+mul-all-gates : tie.Need-mul-all-gates
+mul-all-gates c = search needs
 
-add-line-2 : tie.Need-add-line-2
-add-line-2 c = search needs
+sub-all-gates : tie.Need-sub-all-gates
+sub-all-gates c = search needs
 
-add-line-3 : tie.Need-add-line-3
-add-line-3 c = search needs
+part-all-gates-start : tie.Need-part-all-gates-start
+part-all-gates-start c = search needs
 
-add-t15 : tie.Need-add-t15
-add-t15 c = search needs
+part-all-gates-end : tie.Need-part-all-gates-end
+part-all-gates-end c = search needs
 
-add-t16 : tie.Need-add-t16
-add-t16 c = search needs
-
-block-at-requires : tie.Need-block-at-requires
-block-at-requires c κs = search needs
+all-gates-requires : tie.Need-all-gates-requires
+all-gates-requires c κs = search needs
 
 enum-known-end : tie.Need-enum-known-end
 enum-known-end c = search needs
 
-cast-t27 : tie.Need-cast-t27
-cast-t27 c = search needs
+cast-t21 : tie.Need-cast-t21
+cast-t21 c = search needs
 
-add-t28 : tie.Need-add-t28
-add-t28 c = search needs
+cast-t22 : tie.Need-cast-t22
+cast-t22 c = search needs
+
+add-t23 : tie.Need-add-t23
+add-t23 c = search needs
+
+add-t24 : tie.Need-add-t24
+add-t24 c = search needs
 
 enum-known-fault : tie.Need-enum-known-fault
 enum-known-fault c = search needs
@@ -49,49 +56,59 @@ same-length : tie.Need-same-length
 same-length c = search needs
 
 returns : tie.Need-returns
-unfolding gatesOf blockOf kindAt
+unfolding gatesOf
 returns c =
     let e = c .before .before .before in
-    let b = e .before .before .before .before in
-    took-then _ _ _ _ _ _ _ _ _ (b .block-at .ensures .0) (e .end .given .1) (took-end _ _ _ _ (omega arith))
+    let g = e .before .before .before .before in
+    let start = g .before .before .before .before .before in
+    let room : start .args .from .place + 2 * start .args .head .gates ≤ length (now (start .args .net)) = omega (arith, start .pre .1) in
+    let t = filled-took _ (now (start .args .net)) _ (start .args .from .place) (2 * start .args .head .gates) _ room (g .all-gates .kept .1 .0) (g .all-gates .ensures) in
+    took-then _ _ _ _ _ _ _ _ _ t (e .end .given .1) (took-end _ _ _ _ (omega arith))
 
 same-length-2 : tie.Need-same-length-2
 same-length-2 c = search needs
 
 returns-2 : tie.Need-returns-2
-unfolding gatesOf blockOf kindAt
+unfolding gatesOf
 returns-2 c =
-    let i = c .before in
+    let i = c .before .before in
     let e = i .before .before .before in
-    let b = e .before .before .before .before in
-    took-then _ _ _ _ _ _ _ _ _ (b .block-at .ensures .0) (e .end .given .1) (took-extra _ _ _ _ _ _ _ (i .if1 .left) (omega arith))
+    let g = e .before .before .before .before in
+    let start = g .before .before .before .before .before in
+    let room : start .args .from .place + 2 * start .args .head .gates ≤ length (now (start .args .net)) = omega (arith, start .pre .1) in
+    let t = filled-took _ (now (start .args .net)) _ (start .args .from .place) (2 * start .args .head .gates) _ room (g .all-gates .kept .1 .0) (g .all-gates .ensures) in
+    took-then _ _ _ _ _ _ _ _ _ t (e .end .given .1) (took-extra _ _ _ _ _ _ _ (i .if1 .left) (omega (arith, start .pre .0 .0)))
 
 same-length-3 : tie.Need-same-length-3
 same-length-3 c = search needs
 
 returns-3 : tie.Need-returns-3
-unfolding gatesOf blockOf kindAt
+unfolding gatesOf
 returns-3 c =
     let f = c .before in
-    let b = f .before .before .before .before in
-    took-failed _ _ _ _ _ _ _ _ (b .block-at .ensures .0) (f .fault .given .1)
+    let g = f .before .before .before .before in
+    let start = g .before .before .before .before .before in
+    let room : start .args .from .place + 2 * start .args .head .gates ≤ length (now (start .args .net)) = omega (arith, start .pre .1) in
+    let t = filled-took _ (now (start .args .net)) _ (start .args .from .place) (2 * start .args .head .gates) _ room (g .all-gates .kept .1 .0) (g .all-gates .ensures) in
+    took-failed _ _ _ _ _ _ _ _ t (f .fault .given .1)
 
 pub gates-at-spec : {M : Type 1} → statement M
 gates-at-spec =
     tie.close
     (tie.spec
-    cast-line
-    cast-line-2
-    add-line
-    cast-line-3
-    add-line-2
-    add-line-3
-    add-t15
-    add-t16
-    block-at-requires
+    cast-after
+    mul-after
+    add-after
+    mul-all-gates
+    sub-all-gates
+    part-all-gates-start
+    part-all-gates-end
+    all-gates-requires
     enum-known-end
-    cast-t27
-    add-t28
+    cast-t21
+    cast-t22
+    add-t23
+    add-t24
     enum-known-fault
     same-length
     returns

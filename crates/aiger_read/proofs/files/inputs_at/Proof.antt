@@ -1,7 +1,7 @@
 -- `inputs_at` meets its contract. Assumes nothing.
 use Rattle.aiger_lines.proofs.PassLaws.{took-then, took-failed, within-past}
 use Rattle.aiger_read.specs.Files.{bodyOf}
-use Rattle.aiger_read.specs.Private.Steps.{kindAt, blockOf, inputsOf, latchesOf, outputsOf, gatesOf}
+use Rattle.aiger_read.specs.Private.Steps.{kindAt, blockOf, inputsOf, latchesOf, outputsOf, gatesOf, gateBlock}
 use borrow.Author.Needs.{needs}
 use Rattle.aiger_read.proofs.files.inputs_at.Statement.{statement}
 use Rattle.aiger_read.proofs.files.inputs_at.Tie as tie
@@ -26,7 +26,7 @@ same-length : tie.Need-same-length
 same-length c = search needs
 
 returns : tie.Need-returns
-unfolding inputsOf bodyOf latchesOf outputsOf gatesOf blockOf kindAt
+unfolding inputsOf bodyOf latchesOf outputsOf gatesOf gateBlock blockOf kindAt
 returns c =
     let g = c .before .before in
     let n = g .before .before .before in

@@ -1,8 +1,8 @@
 -- `read_file` meets its contract. Assumes nothing.
-use Rattle.aiger_lines.proofs.HeadLaws.{head-counted}
 use Rattle.aiger_lines.proofs.PassLaws.{took-head, took-misheaded}
 use Rattle.aiger_read.specs.Files.{bodyOf, fileRead}
 use Rattle.aiger_read.specs.Private.Steps.{inputsOf}
+use Rattle.aiger_read.proofs.PassLaws.{headed}
 use borrow.Author.Needs.{needs}
 use Rattle.aiger_read.proofs.files.read_file.Statement.{statement}
 use Rattle.aiger_read.proofs.files.read_file.Tie as tie
@@ -19,7 +19,8 @@ store-head-requires c κs = search needs
 inputs-at-requires : tie.Need-inputs-at-requires
 inputs-at-requires c κs =
     let h = c .before .before .before .before .before .before in
-    head-counted _ _ _ _ (h .before .before .header-at .ensures) (h .head .given .1)
+    let k = headed _ _ _ _ (h .before .before .header-at .ensures) (h .head .given .1) in
+    search needs
 
 enum-known-fault : tie.Need-enum-known-fault
 enum-known-fault c = search needs

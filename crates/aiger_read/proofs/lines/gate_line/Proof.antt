@@ -1,7 +1,8 @@
 -- `gate_line` meets its contract. Assumes nothing.
-use native.Mathlib.Omega.{arith}
-use Rattle.aiger_lines.specs.Private.Steps.{numbersIn, rowIn}
-use Rattle.aiger_read.proofs.RowLaws.{gate-wrong, gate-other, gate-above, gate-order, gate-good}
+use mathlib.Core.Path.{sym, _∙_}
+use borrow.Author.Tests.{not-true, not-false}
+use Rattle.aiger_read.specs.Private.Steps.{gateIn}
+use Rattle.aiger_read.proofs.RowLaws.{gate-tests, gate-small, gate-wrong, gate-bad, gate-good}
 use borrow.Author.Needs.{needs}
 use Rattle.aiger_read.proofs.lines.gate_line.Statement.{statement}
 use Rattle.aiger_read.proofs.lines.gate_line.Tie as tie
@@ -10,62 +11,85 @@ three-numbers-requires : tie.Need-three-numbers-requires
 three-numbers-requires c κs = search needs
 
 returns : tie.Need-returns
-unfolding rowIn
-returns c = gate-wrong _ _ _ _ (c .before .before .three-numbers .ensures) _ (c .if1 .taken)
+unfolding gateIn
+returns c = gate-wrong _ _ _ (c .before .before .three-numbers .ensures) _ _ _ (c .if1 .taken)
 
-array-read-if2 : tie.Need-array-read-if2
-array-read-if2 c = search needs
+array-read-gate-fits : tie.Need-array-read-gate-fits
+array-read-gate-fits c = search needs
 
-cast-if2 : tie.Need-cast-if2
-cast-if2 c = search needs
+array-read-gate-fits-2 : tie.Need-array-read-gate-fits-2
+array-read-gate-fits-2 c = search needs
+
+array-read-gate-fits-3 : tie.Need-array-read-gate-fits-3
+array-read-gate-fits-3 c = search needs
+
+gate-fits-requires : tie.Need-gate-fits-requires
+gate-fits-requires c κs = search needs
+
+same-length : tie.Need-same-length
+same-length c = search needs
 
 returns-2 : tie.Need-returns-2
-unfolding rowIn
+unfolding gateIn
 returns-2 c =
-    let i = c .before .before .before in
-    gate-other _ _ _ _ (i .before .before .three-numbers .ensures) _ (i .if1 .left) (λ e. omega arith)
+    let f = c .before in
+    let i = f .before .before .before in
+    gate-bad _ _ _ (i .before .before .three-numbers .ensures) _ _ _ (i .if1 .left) (sym (f .gate-fits .ensures) ∙ not-true _ (c .if2 .taken))
 
-array-read-if3 : tie.Need-array-read-if3
-array-read-if3 c = search needs
+array-read-store-pair : tie.Need-array-read-store-pair
+array-read-store-pair c = search needs
 
-cast-if3 : tie.Need-cast-if3
-cast-if3 c = search needs
+cast-store-pair : tie.Need-cast-store-pair
+cast-store-pair c =
+    let f = c .before in
+    let start = f .before .before .before .before .before .before .before .before in
+    let small = gate-small _ _ _ _ _ _ (start .pre .0) (gate-tests _ _ _ _ (sym (f .gate-fits .ensures) ∙ not-false _ (c .if2 .left))) in
+    search needs
+
+gate-place-requires : tie.Need-gate-place-requires
+gate-place-requires c κs =
+    let f = c .before in
+    gate-tests _ _ _ _ (sym (f .gate-fits .ensures) ∙ not-false _ (c .if2 .left)) .from
+
+array-read-store-pair-2 : tie.Need-array-read-store-pair-2
+array-read-store-pair-2 c = search needs
+
+cast-store-pair-2 : tie.Need-cast-store-pair-2
+cast-store-pair-2 c =
+    let i = c .before .before in
+    let f = i .before in
+    let start = f .before .before .before .before .before .before .before .before in
+    let small = gate-small _ _ _ _ _ _ (start .pre .0) (gate-tests _ _ _ _ (sym (f .gate-fits .ensures) ∙ not-false _ (i .if2 .left))) in
+    search needs
+
+array-read-store-pair-3 : tie.Need-array-read-store-pair-3
+array-read-store-pair-3 c = search needs
+
+cast-store-pair-3 : tie.Need-cast-store-pair-3
+cast-store-pair-3 c =
+    let i = c .before .before in
+    let f = i .before in
+    let start = f .before .before .before .before .before .before .before .before in
+    let small = gate-small _ _ _ _ _ _ (start .pre .0) (gate-tests _ _ _ _ (sym (f .gate-fits .ensures) ∙ not-false _ (i .if2 .left))) in
+    search needs
+
+store-pair-requires : tie.Need-store-pair-requires
+store-pair-requires c κs = search needs
+
+same-length-2 : tie.Need-same-length-2
+same-length-2 c = search needs
 
 returns-3 : tie.Need-returns-3
-unfolding rowIn
+unfolding gateIn
 returns-3 c =
-    let i = c .before .before .before .before .before in
-    gate-above _ _ _ _ (i .before .before .three-numbers .ensures) _ (i .if1 .left) (omega arith) (omega arith)
-
-array-read-if4 : tie.Need-array-read-if4
-array-read-if4 c = search needs
-
-array-read-if4-2 : tie.Need-array-read-if4-2
-array-read-if4-2 c = search needs
-
-returns-4 : tie.Need-returns-4
-unfolding rowIn
-returns-4 c =
-    let i = c .before .before .before .before .before .before in
-    gate-order _ _ _ _ (i .before .before .three-numbers .ensures) _ (i .if1 .left) (omega arith) (omega arith) (omega arith)
-
-array-read-t11 : tie.Need-array-read-t11
-array-read-t11 c = search needs
-
-cast-t24 : tie.Need-cast-t24
-cast-t24 c = search needs
-
-array-read-t12 : tie.Need-array-read-t12
-array-read-t12 c = search needs
-
-cast-t28 : tie.Need-cast-t28
-cast-t28 c = search needs
-
-returns-5 : tie.Need-returns-5
-unfolding rowIn numbersIn
-returns-5 c =
-    let i = c .before .before .before .before .before .before in
-    gate-good _ _ _ _ (i .before .before .three-numbers .ensures) _ (i .if1 .left) (omega arith) (omega arith) (omega arith)
+    let p = c .before .before in
+    let g = p .before .before in
+    let i2 = g .before in
+    let f = i2 .before in
+    let i = f .before .before .before in
+    λ free.
+    rw (p .store-pair .ensures, g .gate-place .ensures .0)
+    (gate-good _ _ _ (i .before .before .three-numbers .ensures) _ _ _ (i .if1 .left) (sym (f .gate-fits .ensures) ∙ not-false _ (i2 .if2 .left)) free)
 
 pub gate-line-spec : {M : Type 1} → statement M
 gate-line-spec =
@@ -73,17 +97,19 @@ gate-line-spec =
     (tie.spec
     three-numbers-requires
     returns
-    array-read-if2
-    cast-if2
+    array-read-gate-fits
+    array-read-gate-fits-2
+    array-read-gate-fits-3
+    gate-fits-requires
+    same-length
     returns-2
-    array-read-if3
-    cast-if3
-    returns-3
-    array-read-if4
-    array-read-if4-2
-    returns-4
-    array-read-t11
-    cast-t24
-    array-read-t12
-    cast-t28
-    returns-5)
+    array-read-store-pair
+    cast-store-pair
+    gate-place-requires
+    array-read-store-pair-2
+    cast-store-pair-2
+    array-read-store-pair-3
+    cast-store-pair-3
+    store-pair-requires
+    same-length-2
+    returns-3)

@@ -28,15 +28,6 @@ enum-known-kind-3 c = search needs
 output-line-requires : tie.Need-output-line-requires
 output-line-requires c κs = search needs
 
-enum-known-kind-4 : tie.Need-enum-known-kind-4
-enum-known-kind-4 c = search needs
-
-literal-due-requires-3 : tie.Need-literal-due-requires-3
-literal-due-requires-3 c κs = rw (c .before .kind4 .given .1) at (c .before .before .before .before .pre)
-
-gate-line-requires : tie.Need-gate-line-requires
-gate-line-requires c κs = search needs
-
 returns : tie.Need-returns
 unfolding kindAt
 returns c = rw (c .before .before .before .kind .given .1) (rw (c .before .literal-due .ensures) at (c .input-line .ensures))
@@ -48,10 +39,6 @@ returns-2 c = rw (c .before .before .before .kind2 .given .1) (rw (c .before .li
 returns-3 : tie.Need-returns-3
 unfolding kindAt
 returns-3 c = rw (c .before .before .kind3 .given .1) (c .output-line .ensures)
-
-returns-4 : tie.Need-returns-4
-unfolding kindAt
-returns-4 c = rw (c .before .before .before .kind4 .given .1) (rw (c .before .literal-due3 .ensures) at (c .gate-line .ensures))
 
 pub line-of-spec : {M : Type 1} → statement M
 line-of-spec =
@@ -65,10 +52,6 @@ line-of-spec =
     latch-line-requires
     enum-known-kind-3
     output-line-requires
-    enum-known-kind-4
-    literal-due-requires-3
-    gate-line-requires
     returns
     returns-2
-    returns-3
-    returns-4)
+    returns-3)

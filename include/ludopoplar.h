@@ -13,8 +13,8 @@
      else that is lent to it; what is only read may be lent twice.
      The tally and what is lent to be read must be initialised; buffers that are only filled need not be.
      A call fills a buffer from its start; where the buffer is longer than needed, the rest stays as it was.
-     ludo_build and ludo_build_checked take up to 220 KB of stack, for deep formulas; the other calls take
-     under 4 KB.
+     ludo_build and ludo_build_checked take up to 220 KB of stack, for deep formulas, and ludo_read under 40 KB,
+     for gates out of order; the other calls take under 4 KB.
 
    Return code
      0 where the call is accepted. Else the call is refused, and the code is number * 2^32 + line, which
@@ -37,7 +37,8 @@
        11     0      graph: its netlist would have more than 4,095 variables
        12     0      a buffer is too short
        13     its    AIGER: line of wrong shape, missing or extra
-       14     its    AIGER: line of right shape that breaks order or limits
+       14     its    AIGER: line of right shape that breaks order or limits; a gate of the ASCII form may stand
+                     anywhere among the gates, but its variable must be a gate's, and defined once
        14     0      packed AIGER: difference that gives no allowed operand
        15     its    trace: wrong line, counted in its own trace; a step's cycle is line 1
        16     0      the numbers are no netlist
@@ -48,15 +49,17 @@
                      several bits where one bit is due
        21     0      tally: no cycle, or more rejected than cycles
        22     0      session page: graph name not of 1 to 24 letters, digits or _, or a verdict above 1
+       23     0      AIGER, ASCII form: gates that wait on each other, or a gate on itself
        25     0      verdicts: not one byte for each line of their trace, or a byte above 1
        26     0      width of lines outside 1 to 64
 
      Lines count from 1; the first faulty line decides, and in it the lower number, also where an edge's two
-     formulas have one each. Build checks 1, the lines, 10, 11, 12; read 1, the lines, then of a packed file
-     its byte runs in order, each for 18 before 14, then 18 for what follows them, then 12; write, packed write
-     and start 16, 12; step 16, 15, 12, 17; run 1, then as step; per million 21; broken check 1 of either
-     trace, 26, 15 of the flywheel trace, 15 of the handle trace, 25; session page 1, 22, 12. A call whose name
-     ends in _checked checks what the one without it checks, in the same order.
+     formulas have one each. Build checks 1, the lines, 10, 11, 12; read 1, the lines, missing and extra ones
+     among them, then of a packed file its byte runs in order, each for 18 before 14, and 18 for what follows
+     them, of an ASCII file 23, then 12; write, packed write and start 16, 12; step 16, 15, 12, 17; run 1, then
+     as step; per million 21; broken check 1 of either trace, 26, 15 of the flywheel trace, 15 of the handle
+     trace, 25; session page 1, 22, 12. A call whose name ends in _checked checks what the one without it
+     checks, in the same order.
 
    Netlist: uint16_t numbers, 5 + 2L + O + 2A of them, at most 8,195
      M I L O A               highest variable, inputs, latches, outputs, AND gates
@@ -125,11 +128,22 @@ uint64_t ludo_write(const uint16_t *net, size_t net_len, uint8_t *text, size_t t
    seven bits a byte, the lowest first, the top bit set where more follow. */
 uint64_t ludo_write_packed(const uint16_t *net, size_t net_len, uint8_t *bytes, size_t bytes_len, uint64_t *length);
 
-/* Reads the AIGER file `text` into `net`; `*length` is the number of numbers of its netlist. Where the file
-   begins with aig and a blank it is read as packed, else as ASCII; a netlist written in either form reads as the
-   same netlist. A byte run is in no line, so what is refused there, with 18 or 14, is told with line 0. The
-   reader also takes a reset of 0 that is written out; it takes nothing after the last gate, no symbols and no
-   comment. */
+/* Reads the AIGER file `text`, of either form, into `net`; `*length` is the number of numbers of its netlist.
+   Where the file begins with aig and a blank it is read as packed, else as ASCII; a netlist written in either
+   form reads as the same netlist. A byte run is in no line, so what is refused there, with 18 or 14, is told with
+   line 0. The reader also takes a reset of 0 that is written out; it takes nothing after the last gate, no
+   symbols and no comment.
+
+   The gates of an ASCII file may stand in any order, operands either way round; the netlist's gates are
+   renumbered. At each place of the netlist stands the gate of lowest literal in the file whose operands are
+   placed already; the constant, inputs and latches are from the start. Operands, next and outputs take the new
+   literals, each with its sign, and of two operands the larger new one is first. What the netlist computes is
+   what the file says. A file of a netlist reads as that netlist in whatever order its gate lines are.
+
+     aag 3 1 0 1 2 | 2 | 4 | 4 6 2 | 6 2 3        lines parted by |
+     3 1 0 1 2   6   3 2   4 2                    6 is placed first and becomes 4, and 4 becomes 6
+
+   Gates that wait on each other, or a gate on itself or its inverse, are refused with 23. */
 uint64_t ludo_read(const uint8_t *text, size_t text_len, uint16_t *net, size_t net_len, uint64_t *length);
 
 /* Begins a run of a netlist: fills the first L words of `latches` and sets the tally, `*cycles` and

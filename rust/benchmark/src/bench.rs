@@ -1,5 +1,6 @@
 //! One netlist with all that the calls on it are lent.
 
+use crate::orders;
 use reference::Outputs;
 
 /// What start, step and run are lent beside the netlist.
@@ -14,11 +15,13 @@ pub struct Words {
     pub checked: u32,
 }
 
-/// A graph, its netlist, its AIGER file in both forms and a trace for it.
+/// A graph, its netlist, its AIGER file in both forms, its text with the gate lines shuffled, and
+/// a trace for it.
 pub struct Bench {
     pub graph: Vec<u8>,
     pub net: Vec<u16>,
     pub text: Vec<u8>,
+    pub shuffled: Vec<u8>,
     pub packed: Vec<u8>,
     pub trace: Vec<u8>,
 }
@@ -40,6 +43,10 @@ impl Bench {
         let numbers = ludopoplar::read(&text, &mut back).expect("a netlist's text");
         net.truncate(numbers);
         assert_eq!(net, back[..numbers], "read gives other numbers");
+        let shuffled = orders::shuffled(&text, gates as usize);
+        back.fill(0);
+        ludopoplar::read(&shuffled, &mut back).expect("a netlist's text");
+        assert_eq!(net, back[..numbers], "shuffled, it gives other numbers");
         let mut packed = vec![0; 65_536];
         let length = ludopoplar::write_packed(&net, &mut packed).expect("a netlist");
         packed.truncate(length);
@@ -50,6 +57,7 @@ impl Bench {
             graph,
             net,
             text,
+            shuffled,
             packed,
             trace,
         };
@@ -66,9 +74,9 @@ impl Bench {
         assert_eq!(text, self.text, "the texts differ");
         reference::write_packed(&net, &mut packed).expect("a netlist");
         assert_eq!(packed, self.packed, "the packed files differ");
-        for file in [text, packed] {
+        for file in [&text, &self.shuffled, &packed] {
             net.fill(0);
-            reference::read(&file, &mut net).expect("a netlist's file");
+            reference::read(file, &mut net).expect("a netlist's file");
             assert_eq!(net, self.net, "the readers differ");
         }
     }

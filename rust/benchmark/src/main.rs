@@ -1,5 +1,6 @@
 //! Measures the proved library beside the reference and, for `run`, a C loop; `run` with two
-//! outputs beside `run` with one; and files of the packed form beside those of text.
+//! outputs beside `run` with one; files of the packed form beside those of text; and texts whose
+//! gates stand in other orders.
 //! The results of all of them are compared before anything is timed.
 
 mod bench;
@@ -7,6 +8,7 @@ mod c_loop;
 mod calls;
 mod clock;
 mod graphs;
+mod orders;
 mod traces;
 
 use bench::{Bench, Words};
@@ -26,8 +28,8 @@ fn main() {
         "Processor time, best of {RUNS} repetitions for run, of {SHORT_CALLS} for the others."
     );
     println!("A ratio is another implementation's time over the library's: above 1 the");
-    println!("library is faster. Those of one output and of text are the library's own times");
-    println!("with it.");
+    println!("library is faster. Those of one output, of text and of lines in order are the");
+    println!("library's own times with it.");
     report(
         "stroke buffer of 40 places",
         &graphs::stroke_buffer(40),
@@ -39,6 +41,7 @@ fn main() {
         &traces::longest(8, true),
     );
     report_build_by_size();
+    report_read_by_order();
 }
 
 /// The calls on the netlist with one output, and `run` on that with two beside it.
@@ -195,6 +198,29 @@ fn report_read(bench: &Bench) {
         ],
     );
     report_text_call("read", bench.gates(), bench.text.len(), times);
+    report_shuffled(bench);
+}
+
+/// The same text with its gate lines shuffled, beside the lines in order.
+fn report_shuffled(bench: &Bench) {
+    let (text, shuffled) = (&bench.text, &bench.shuffled);
+    let (mut net, mut same, mut other) = (bench.net.clone(), bench.net.clone(), bench.net.clone());
+    let [library, in_order, reference] = best(
+        SHORT_CALLS,
+        [
+            &mut || accepted(ludopoplar::read(shuffled, &mut net)),
+            &mut || accepted(ludopoplar::read(text, &mut same)),
+            &mut || accepted(reference::read(shuffled, &mut other)),
+        ],
+    );
+    println!(
+        "  read   lines shuffled {}, {}, {}; in order {}, reference {}",
+        duration(library),
+        rate(bench.gates(), library, "gates"),
+        megabytes(shuffled.len(), library),
+        ratio(in_order, library),
+        ratio(reference, library),
+    );
 }
 
 fn report_write(bench: &Bench) {
@@ -274,6 +300,35 @@ fn report_build_by_size() {
             "  {places:2} places: {gates:4} gates, {}, {:.1} ns a gate",
             duration(seconds),
             1e9 * seconds / gates as f64,
+        );
+    }
+}
+
+/// A chain of gates under other numbers: where each waits on the one after it, all that are
+/// left are looked at for each place.
+fn report_read_by_order() {
+    println!(
+        "\nread of a chain of {} gates by their order",
+        orders::GATES
+    );
+    for (name, text) in orders::chains() {
+        let (mut net, mut other) = (vec![0; 8_196], vec![0; 8_196]);
+        let numbers = ludopoplar::read(&text, &mut net).expect("a netlist's text");
+        reference::read(&text, &mut other).expect("a netlist's text");
+        assert_eq!(net, other, "the readers differ");
+        assert_eq!(net[..numbers], orders::netlist(), "the chain is another");
+        let [library, reference] = best(
+            SHORT_CALLS,
+            [
+                &mut || accepted(ludopoplar::read(&text, &mut net)),
+                &mut || accepted(reference::read(&text, &mut other)),
+            ],
+        );
+        println!(
+            "  {name:26}  {}, {:.1} ns a gate; reference {}",
+            duration(library),
+            1e9 * library / orders::GATES as f64,
+            ratio(reference, library),
         );
     }
 }

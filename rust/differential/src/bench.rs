@@ -20,6 +20,7 @@ impl Bench<'_> {
         }
         self.coverage.stakes.record(call, before, &outcome);
         self.coverage.forms.record(call, &outcome);
+        self.coverage.orders.record(call, &outcome);
         Ok(outcome)
     }
 

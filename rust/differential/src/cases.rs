@@ -1,15 +1,15 @@
 //! The cases: one call, or a list of calls on one netlist; and now and then a session, a session
-//! page, or a packed file.
+//! page, a packed file, or a text with its gates in any order.
 
 use crate::bench::Bench;
 use crate::compare::{Call, Lengths, Memory, Mismatch, Name};
 use crate::random::Random;
 use crate::round_trip::{both_forms, write_and_read_back};
-use crate::{aigers, graphs, netlists, packs, pages, rates, sequence, sessions, traces};
+use crate::{aigers, graphs, loose, netlists, packs, pages, rates, sequence, sessions, traces};
 use reference::{formula_of_gates, Edge, Graph, Netlist, Outputs, Tally};
 
-/// The session, then the page and then the packed file are drawn last, so that the others'
-/// draws do not depend on them.
+/// The session, then the page, then the packed file and then the text of loose gates are drawn
+/// last, so that the others' draws do not depend on them.
 pub fn case(bench: &mut Bench) -> Result<(), Mismatch> {
     calls(bench)?;
     if bench.random.once_in(4) {
@@ -20,6 +20,10 @@ pub fn case(bench: &mut Bench) -> Result<(), Mismatch> {
     }
     if bench.random.coin() {
         packed(bench)?;
+    }
+    if bench.random.coin() {
+        let file = loose::any(&mut bench.random);
+        read_file(bench, file)?;
     }
     Ok(())
 }

@@ -1,10 +1,12 @@
 //! How often each call was accepted, and refused with each number; of the graphs how often
 //! each rule chose their terminal edges, and what they have of names wider than a bit; what
-//! the calls have of a second output; and of packed files what they have and are refused for.
+//! the calls have of a second output; of packed files what they have and are refused for; and of
+//! texts in what order their gates stand.
 
 use crate::compare::{Name, Outcome};
 use crate::forms::Forms;
 use crate::kinds::Kinds;
+use crate::orders::Orders;
 use crate::stakes::Stakes;
 use reference::{Edge, Graph, Operand, Outputs};
 use std::collections::BTreeMap;
@@ -17,7 +19,7 @@ const REFUSALS: [(Name, &[u32]); 14] = [
         Name::BuildChecked,
         &[1, 2, 3, 4, 5, 6, 7, 8, 9, 10, 11, 12, 19],
     ),
-    (Name::Read, &[1, 12, 13, 14, 18]),
+    (Name::Read, &[1, 12, 13, 14, 18, 23]),
     (Name::Write, &[12, 16]),
     (Name::WritePacked, &[12, 16]),
     (Name::Start, &[12, 16]),
@@ -49,6 +51,8 @@ pub struct Coverage {
     pub stakes: Stakes,
     /// Packed files.
     pub forms: Forms,
+    /// Texts, by the order of their gates.
+    pub orders: Orders,
     /// Cycles judged by their paths, and those rejected by one; and of them those of graphs
     /// that compare names of several bits.
     path_cycles: u64,
@@ -155,6 +159,7 @@ impl Coverage {
         gaps.extend(self.kinds.gaps());
         gaps.extend(self.stakes.gaps());
         gaps.extend(self.forms.gaps());
+        gaps.extend(self.orders.gaps());
         if self.path_rejected == 0 || self.path_rejected == self.path_cycles {
             gaps.push("paths".into());
         }
@@ -228,6 +233,7 @@ impl fmt::Display for Coverage {
         writeln!(f, "{}", self.kinds)?;
         writeln!(f, "{}", self.stakes)?;
         writeln!(f, "{}", self.forms)?;
+        writeln!(f, "{}", self.orders)?;
         writeln!(
             f,
             "lines handed back: {} of the flywheel, {} of the handle, {} empty",

@@ -180,7 +180,9 @@ fn change_end(random: &mut Random, pack: &mut Pack) {
         0 if !pack.runs.is_empty() => {
             let mut kept = pack.runs.concat();
             kept.truncate(random.below(kept.len()));
+            // none where nothing is kept: a run has a byte
             pack.runs = vec![kept];
+            pack.runs.retain(|run| !run.is_empty());
         }
         1 => pack.tail.push(random.byte()),
         _ => pack.tail.extend_from_slice(random.pick(&TAILS)),

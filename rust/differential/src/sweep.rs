@@ -1,7 +1,8 @@
 //! Every change of one byte or one number in a few small inputs, every short list of some
 //! lines as a graph, names of every width and short formulas over them, every count of
-//! outputs, packed files of every small kind, every pair of some numbers as a tally and every three of some, sessions of every
-//! small kind, and session pages of every small kind and of the largest.
+//! outputs, packed files of every small kind, texts whose gates stand in every order, every pair
+//! of some numbers as a tally and every three of some, sessions of every small kind, and session
+//! pages of every small kind and of the largest.
 
 use crate::bench::Bench;
 use crate::checked;
@@ -11,6 +12,7 @@ use crate::packed;
 use crate::pages::{compare_page_into, needed, MAX_CYCLES};
 use crate::rates;
 use crate::sessions::{compare_session, Measurement};
+use crate::shuffled;
 use crate::traces::MAX_TRACE_BYTES;
 use crate::widths;
 use reference::Tally;
@@ -34,6 +36,8 @@ const NUMBERS_OF_TWO: [u16; 13] = [5, 2, 2, 2, 1, 10, 0, 8, 8, 11, 7, 9, 4];
 const PACKED: &[u8] = b"aig 6 2 3 1 1\n5\n12 1\n10 10\n12\n\x03\x05";
 const PACKED_OF_TWO: &[u8] = b"aig 5 2 2 2 1\n10\n8 8\n11\n7\n\x01\x05";
 const LONG_RUNS: &[u8] = b"aig 66 64 0 1 2\n133\n\x81\x01\x01\x02\x80\x01";
+/// Has gates in no order: 10 is placed before 8.
+const LOOSE: &[u8] = b"aag 5 2 1 2 2\n2\n4\n6 8 6\n10\n9\n8 4 10\n10 2 3\n";
 const TRACE: &[u8] = b"10\n01\n11\n";
 const HANDLE: &[u8] = b"00\n01\n";
 
@@ -48,6 +52,7 @@ pub fn sweep(bench: &mut Bench) -> Result<usize, Mismatch> {
         (Name::BuildChecked, CHECKED),
         (Name::Read, AIGER),
         (Name::Read, AIGER_OF_TWO),
+        (Name::Read, LOOSE),
         (Name::Read, PACKED),
         (Name::Read, PACKED_OF_TWO),
         (Name::Read, LONG_RUNS),
@@ -89,6 +94,7 @@ pub fn sweep(bench: &mut Bench) -> Result<usize, Mismatch> {
     }
     count += checked::sweep(bench)?;
     count += packed::sweep(bench)?;
+    count += shuffled::sweep(bench)?;
     for tally in rates::pairs() {
         rates::compare_rate(bench, tally)?;
         count += 1;

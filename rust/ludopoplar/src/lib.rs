@@ -164,9 +164,18 @@ pub fn write_packed(net: &[u16], bytes: &mut [u8]) -> Result<usize, Refusal> {
 /// Reads an AIGER file of either form; returns how many numbers the netlist has, at most
 /// `LONGEST_NETLIST`.
 ///
-/// A file that begins with `aig` and a blank is packed, any other is read as text. Of a packed
-/// file the bytes of its gates are in no line: a byte run that is missing, over three bytes,
-/// unfinished or not shortest is refused with 18 at line 0, and so is what stands after the
+/// A file that begins with `aig` and a blank is packed, any other is read as text.
+///
+/// The gates of a text may stand in any order, their operands either way round. In the netlist
+/// each place has the gate of lowest literal in the file whose operands are placed already, with
+/// the larger operand first; gates, and each next and output that speaks of them, are renumbered
+/// accordingly. So a file that `write` wrote reads as its netlist in whatever order its gate lines
+/// are. A gate's line that defines another variable than a gate's, or one that is defined already,
+/// is refused with 14 at that line; gates that wait on each other, or a gate on itself, with 23 at
+/// line 0, where no line is refused and before 12.
+///
+/// Of a packed file the bytes of its gates are in no line: a byte run that is missing, over three
+/// bytes, unfinished or not shortest is refused with 18 at line 0, and so is what stands after the
 /// last gate; a difference that gives no allowed operand with 14 at line 0.
 pub fn read(text: &[u8], net: &mut [u16]) -> Result<usize, Refusal> {
     let mut length = 0;

@@ -1,6 +1,7 @@
 //! The AIGER subset: files of text, and the calls that take or make a file of either form.
 
 use crate::netlist::{Header, Literal, Netlist, Reset};
+use crate::order::Arrived;
 use crate::packed;
 use crate::refusal::{check_size, fill, Cause, Refusal};
 use std::fmt::Write as _;
@@ -72,7 +73,9 @@ fn file(netlist: &Netlist) -> String {
 }
 
 /// The netlist of a file. Each line is judged for its shape (13) before its
-/// numbers (14); a number over 65,535 breaks the limits wherever it stands.
+/// numbers (14); a number over 65,535 breaks the limits wherever it stands. The gates may
+/// stand in any order, operands either way round; "gates that wait on each other, or a gate on
+/// itself, are 23, line 0", when all lines are read.
 fn parse(text: &[u8]) -> Result<Netlist, Refusal> {
     let mut reader = Reader::new(text);
     let mut netlist = reader.header(b"aag ")?;
@@ -88,13 +91,14 @@ fn parse(text: &[u8]) -> Result<Netlist, Refusal> {
         reader.within_limits(netlist.add_latch(numbers[1], reset))?;
     }
     reader.outputs(&mut netlist)?;
-    for index in 0..header.gates as usize {
+    let mut gates = Arrived::new(header);
+    for _ in 0..header.gates {
         let numbers = reader.numbers(b"", 3..=3)?;
-        reader.literal(numbers[0], header.gate(index).literal())?;
-        reader.within_limits(netlist.add_gate(numbers[1], numbers[2]))?;
+        reader.within_limits(gates.define(numbers[0], [numbers[1], numbers[2]]))?;
     }
     reader.end()?;
-    Ok(netlist)
+    let placed = gates.netlist(&netlist);
+    placed.ok_or(Cause::WaitingGates.no_line())
 }
 
 /// The lines of a file, one after another, and what stands after those read.
@@ -155,7 +159,7 @@ impl<'a> Reader<'a> {
         part.ok_or(Cause::AigerLimits.at(self.line))
     }
 
-    /// Inputs, latches and gates stand in the order of their variables.
+    /// Inputs and latches stand in the order of their variables.
     fn literal(&self, number: u32, due: Literal) -> Result<(), Refusal> {
         self.within_limits((number == due.0).then_some(()))
     }
@@ -232,10 +236,15 @@ mod tests {
         assert_eq!(read_all(&buffer), Ok(vec![1, 1, 0, 1, 0, 2]));
         let inverter = lines_text("aag 1 1 0 1 0,2,3");
         assert_eq!(read_all(&inverter), Ok(vec![1, 1, 0, 1, 0, 3]));
-        // Its constants and its toggle have no input, its AND gate the smaller
-        // operand first.
+        // So is its AND gate, with the smaller operand first.
+        let and = lines_text("aag 3 2 0 1 1,2,4,6,6 2 4");
+        assert_eq!(read_all(&and), Ok(vec![3, 2, 0, 1, 1, 6, 4, 2]));
+        // So is its toggle with enable and reset, whose gates come before their operands.
+        let toggle = "aag 7 2 1 2 4,2,4,6 8,6,7,8 4 10,10 13 15,12 2 6,14 3 7";
+        let numbers = vec![7, 2, 1, 2, 4, 14, 0, 6, 7, 6, 2, 7, 3, 11, 9, 12, 4];
+        assert_eq!(read_all(&lines_text(toggle)), Ok(numbers));
+        // Its constants and its other toggle have no input.
         assert_eq!(refused("aag 0 0 0 1 0,0"), (14, 1));
-        assert_eq!(refused("aag 3 2 0 1 1,2,4,6,6 2 4"), (14, 5));
         assert_eq!(refused("aag 1 0 1 2 0,2 3,2,3"), (14, 1));
     }
 
@@ -301,8 +310,10 @@ mod tests {
             (FILE.replace(",11,", ",12,"), 6),
             (FILE_OF_TWO.replace(",11,", ",12,"), 6),
             (FILE_OF_TWO.replace("11,4,", "11,12,"), 7),
-            (FILE.replace("10 9 2", "10 2 9"), 7),
-            (FILE.replace("10 9 2", "10 10 2"), 7),
+            (FILE.replace("10 9 2", "10 12 2"), 7),
+            (FILE.replace("10 9 2", "10 2 65536"), 7),
+            (FILE.replace("10 9 2", "8 9 2"), 7),
+            (FILE.replace("10 9 2", "11 9 2"), 7),
             (FILE.replace("10 9 2", "12 9 2"), 7),
             (
                 "aag 8 1 7 1 0,2,4 0 4,6 0 6,8 0 8,10 0 10,12 0 12,14 0 14,16 0 16,0".to_string(),

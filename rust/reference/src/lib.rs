@@ -1,5 +1,5 @@
-//! Document 01, as Nos. 1, 2, 3, 5 and 7 of document 02 change it, and Nos. 8, 9 and 12 of
-//! document 02, once more in plain safe Rust, written from their sentences alone; and what
+//! Document 01, as Nos. 1, 2, 3, 5, 7 and 10 of document 02 change it, and Nos. 8, 9 and 12
+//! of document 02, once more in plain safe Rust, written from their sentences alone; and what
 //! the program `sheet` prints.
 //!
 //! Nothing here is proved and nothing is meant to be fast: each module follows
@@ -14,6 +14,7 @@ mod graph;
 mod lines;
 mod netlist;
 mod operand;
+mod order;
 mod packed;
 mod page;
 mod paths;

@@ -135,7 +135,7 @@ impl Header {
     }
 
     /// "Next and output ≤ 2M+1."
-    fn has(&self, literal: u32) -> bool {
+    pub fn has(&self, literal: u32) -> bool {
         literal <= 2 * self.variables + 1
     }
 }

@@ -26,6 +26,7 @@ pub enum Cause {
     WrongWidth = 19,
     NoRate = 21,
     NotPrintable = 22,
+    WaitingGates = 23,
     VerdictsWrong = 25,
     WidthOutOfRange = 26,
 }

@@ -13,8 +13,8 @@
      else that is lent to it; what is only read may be lent twice.
      The tally and what is lent to be read must be initialised; buffers that are only filled need not be.
      A call fills a buffer from its start; where the buffer is longer than needed, the rest stays as it was.
-     ludo_build and ludo_build_checked take up to 220 KB of stack, for deep formulas, and ludo_read under 40 KB,
-     for gates out of order; the other calls take under 4 KB.
+     ludo_build and ludo_build_checked take up to 220 KB of stack, for deep formulas, and ludo_read under 40 KB;
+     the other calls take under 4 KB.
 
    Return code
      0 where the call is accepted. Else the call is refused, and the code is number * 2^32 + line, which
@@ -134,11 +134,12 @@ uint64_t ludo_write_packed(const uint16_t *net, size_t net_len, uint8_t *bytes, 
    line 0. The reader also takes a reset of 0 that is written out; it takes nothing after the last gate, no
    symbols and no comment.
 
-   The gates of an ASCII file may stand in any order, operands either way round; the netlist's gates are
-   renumbered. At each place of the netlist stands the gate of lowest literal in the file whose operands are
-   placed already; the constant, inputs and latches are from the start. Operands, next and outputs take the new
-   literals, each with its sign, and of two operands the larger new one is first. What the netlist computes is
-   what the file says. A file of a netlist reads as that netlist in whatever order its gate lines are.
+   Inputs and latches come in order, numbered as a netlist's, and each gate variable is defined by one line. The
+   gates of an ASCII file may stand in any order, operands either way round; the netlist's gates are renumbered.
+   At each place of the netlist stands the gate of lowest literal in the file whose operands are placed already;
+   the constant, inputs and latches are from the start. Operands, next and outputs take the new literals, each
+   with its sign, and of two operands the larger new one is first. What the netlist computes is what the file
+   says. A file of a netlist reads as that netlist in whatever order its gate lines are.
 
      aag 3 1 0 1 2 | 2 | 4 | 4 6 2 | 6 2 3        lines parted by |
      3 1 0 1 2   6   3 2   4 2                    6 is placed first and becomes 4, and 4 becomes 6

@@ -1,32 +1,32 @@
 -- THE CLAIM: of loose numbers the one netlist is stored where there is room for it, unless gates wait on each other.
 -- Assumes nothing.
-use mathlib.Core.Path.{_≡_, refl, _∙_}
-use mathlib.Core.Bool.{true, false}
+use mathlib.Core.Path.{_≡_, refl, sym, ap, _∙_}
+use mathlib.Core.Bool.{Bool, true, false, cond}
 use mathlib.Core.List.{List, _++_}
 use mathlib.Core.Logic.{inl, inr}
-use Prim.Native.Nat.{ℕ, suc, _+_, _*_, _/_, _%_, _<_, _≤_}
+use Prim.Native.Nat.{ℕ, zero, suc, _+_, _-_, _*_, _/_, _%_, _<_, _≤_}
 use native.Mathlib.Decide.{ℕ-discrete}
 use native.Mathlib.Nat.{add-zero}
 use native.Mathlib.Omega.{arith}
 use borrow.Author.Tests.{le-leb, lt-leb}
 use lib.ListN.{length, getD, drop}
 use Rattle.netlist.specs.Layout.{maximum, latchCount, outputCount, gateCount, nextAt, resetAt, outputAt, operandsAt, sizeOf, latchVariable}
-use Rattle.netlist.specs.Literals.{literalOf}
+use Rattle.netlist.specs.Literals.{literalOf, variableOf}
 use Rattle.netlist.specs.Valid.{isFree, freeCount, isOutline}
 use Rattle.netlist.proofs.LiteralLaws.{literal-plain, literal-inverted}
 use Rattle.netlist.proofs.ValidLaws.{outline}
 use Rattle.netlist.proofs.AigerLaws.{means, outline-ok}
-use Rattle.gate_order.specs.Loose.{isLoose}
-use Rattle.gate_order.specs.Order.{PlacedAs, Stuck}
-use Rattle.gate_order.specs.Placing.{Placing, ordered, waiting, placingOf}
+use Rattle.gate_order.specs.Loose.{firstGate, isLoose}
+use Rattle.gate_order.specs.Order.{NewLiteral, PlacedAs, Stuck}
+use Rattle.gate_order.specs.Placing.{indexOf, Placing, ordered, waiting, placingOf}
 use Rattle.gate_order.specs.Renumbered.{renumbered}
 use Rattle.gate_order.proofs.LooseLaws.{Within, loose-outline, loose-within, loose-ok, netlist-loose}
-use Rattle.gate_order.proofs.OrderLaws.{placing-order, placing-stuck, order-placing, not-both}
+use Rattle.gate_order.proofs.OrderLaws.{placing-order, placing-stuck, order-placing, not-both, BothLower, rank-free, order-ranks}
 use Rattle.gate_order.proofs.MeaningLaws.{literal-within, latch-ok, placed-lowest, placed-netlist, placed-meaning}
-use Rattle.gate_order.proofs.RenumberedLaws.{renumbered-placed, placed-renumbered, one-placed, netlist-placed}
+use Rattle.gate_order.proofs.RenumberedLaws.{literal-odd, renumbered-placed, placed-renumbered, one-placed, netlist-placed}
 use Rattle.aiger_order.specs.declared.Placing.the-variants.{Placed, Waiting, ShortBuffer, NotLoose}
 use Rattle.aiger_order.specs.Place.{placeEnd, placeAs, placeOf}
-use Rattle.aiger_order.specs.Claims.{Outlined, OperandsWithin, PlaceMeans}
+use Rattle.aiger_order.specs.Claims.{Outlined, OperandsWithin, Ranked, Renamed, RenamedGate, PlaceMeans}
 
 -- ---- the limits in digits
 module _ (loose : List ℕ) where
@@ -120,6 +120,39 @@ module _ (loose : List ℕ) (is : isLoose loose ≡ true) where
       either ((net : List ℕ) × PlacedAs loose net) (λ order e. (renumbered loose order, renumbered-placed loose order is (placing-order loose order e)))
       (λ order e. absurd (free (placing-stuck loose order is e)))
 
+-- ---- ranks, and the gates of the order
+
+module _ (loose : List ℕ) (rank : ℕ → ℕ) where
+  ranked-both : Ranked loose rank → (k : ℕ) → k < gateCount loose → BothLower loose rank k
+  unfolding variableOf
+  ranked-both r k l = (rw (add-zero (operandsAt loose k)) at (r k 0 l (omega arith)), r k 1 l (omega arith))
+
+  both-ranked : ((k : ℕ) → k < gateCount loose → BothLower loose rank k) → Ranked loose rank
+  unfolding variableOf
+  both-ranked b k zero l h = rw (add-zero (operandsAt loose k)) (b k l .0)
+  both-ranked b k (suc zero) l h = b k l .1
+  both-ranked b k (suc (suc j)) l h = absurd (omega arith)
+
+renamed : (loose order : List ℕ) (old new : ℕ) → NewLiteral loose order old new → Renamed loose order old new
+unfolding variableOf
+renamed loose order old new n = record {
+  sign = literal-odd new ∙ ap (λ (s : Bool). cond s 1 0) (n .sign) ∙ sym (literal-odd old);
+  variable = n .variable;
+}
+
+module _ (loose net : List ℕ) (p : PlacedAs loose net) where
+  gate-renamed : (m : ℕ) → m < gateCount loose
+      → (x : ℕ) × (getD (p .order) m 0 ≡ firstGate loose + x) × RenamedGate loose (p .order) net m x
+  gate-renamed m l =
+      let r = p .ordered .ready m l .from in (
+        getD (p .order) m 0 - firstGate loose,
+        omega arith,
+        elim (p .gate m l .operands) [
+          | inl (a, b) ↦ inl (renamed loose (p .order) _ _ a, renamed loose (p .order) _ _ b)
+          | inr (a, b) ↦ inr (renamed loose (p .order) _ _ a, renamed loose (p .order) _ _ b)
+        ],
+      )
+
 pub place-means : PlaceMeans
 place-means = record {
   loose = λ loose o w. loose-ok loose (outlined-is loose o) (operands-both loose w);
@@ -131,6 +164,9 @@ place-means = record {
   waits = λ loose buf is. waits loose is buf;
   placed = placed;
   never = λ loose net p. not-both loose (p .order) (p .ordered);
+  ranked = λ loose rank is r. placed loose is (rank-free loose rank (ranked-both loose rank r));
+  ranks = λ loose net is p. ((λ x. indexOf x (p .order)), both-ranked loose (λ x. indexOf x (p .order)) (order-ranks loose (p .order) (p .ordered)));
+  gates = λ loose net is p. (p .ordered .whole, p .header, gate-renamed loose net p);
   one = λ loose net other is. one-placed loose net other;
   lowest = λ loose net is. placed-lowest loose net;
   netlist = placed-netlist;

@@ -3,7 +3,7 @@ use mathlib.Core.Path.{_≡_}
 use mathlib.Core.Bool.{true, false}
 use mathlib.Core.List.{List, _++_}
 use mathlib.Core.Logic.{_⊎_}
-use Prim.Native.Nat.{ℕ, suc, _+_, _*_, _<_, _≤_}
+use Prim.Native.Nat.{ℕ, suc, _+_, _*_, _/_, _%_, _<_, _≤_}
 use lib.ListN.{length, getD, take, drop}
 use Rattle.netlist.specs.Layout.{sizeOf}
 use Rattle.netlist.specs.Valid.{freeCount, isNetlist}
@@ -30,6 +30,25 @@ pub record Outlined (loose : List ℕ) : Type 0 where
 abbrev pub OperandsWithin : List ℕ → Type 0
 OperandsWithin loose = (j : ℕ) → j < 2 * getD loose 4 0 → getD loose (5 + 2 * getD loose 2 0 + getD loose 3 0 + j) 0 ≤ 2 * getD loose 0 0 + 1
 
+-- each operand of each gate is no gate's, or one of a gate of lower rank
+abbrev pub Ranked : List ℕ → (ℕ → ℕ) → Type 0
+Ranked loose rank = (k j : ℕ) → k < getD loose 4 0 → j < 2
+    → (getD loose (5 + 2 * getD loose 2 0 + getD loose 3 0 + 2 * k + j) 0 / 2 < getD loose 1 0 + getD loose 2 0 + 1)
+    ⊎ (rank (getD loose (5 + 2 * getD loose 2 0 + getD loose 3 0 + 2 * k + j) 0 / 2) < rank (getD loose 1 0 + getD loose 2 0 + 1 + k))
+
+-- a literal by the new numbers: a gate's variable is that of its place in the order, the others stay, and so does the sign
+pub record Renamed (loose order : List ℕ) (old new : ℕ) : Type 0 where
+  pub sign : new % 2 ≡ old % 2
+  pub variable : ((old / 2 < getD loose 1 0 + getD loose 2 0 + 1) × (new / 2 ≡ old / 2))
+      ⊎ ((m : ℕ) × (m < getD loose 4 0) × (getD order m 0 ≡ old / 2) × (new / 2 ≡ getD loose 1 0 + getD loose 2 0 + 1 + m))
+
+-- the operands at place m of the netlist are those of the m-th gate of the order, x + I + L + 1, renamed, either way round
+abbrev pub RenamedGate : List ℕ → List ℕ → List ℕ → ℕ → ℕ → Type 0
+RenamedGate loose order net m x =
+    let at = 5 + 2 * getD loose 2 0 + getD loose 3 0 in
+    (Renamed loose order (getD loose (at + 2 * x) 0) (getD net (at + 2 * m) 0) × Renamed loose order (getD loose (at + 2 * x + 1) 0) (getD net (at + 2 * m + 1) 0))
+    ⊎ (Renamed loose order (getD loose (at + 2 * x) 0) (getD net (at + 2 * m + 1) 0) × Renamed loose order (getD loose (at + 2 * x + 1) 0) (getD net (at + 2 * m) 0))
+
 -- THE CLAIM, of any numbers and any buffer lent
 pub record PlaceMeans : Type 0 where
   -- numbers are loose where those of header, latches and outputs are within the limits, and each operand is
@@ -51,6 +70,13 @@ pub record PlaceMeans : Type 0 where
   -- one of the two holds of all loose numbers, and never both
   pub placed : (loose : List ℕ) → isLoose loose ≡ true → (Stuck loose → ⊥) → (net : List ℕ) × PlacedAs loose net
   pub never : (loose net : List ℕ) → PlacedAs loose net → Stuck loose → ⊥
+  -- gates can be placed exactly where they can be ranked, each above its operands
+  pub ranked : (loose : List ℕ) (rank : ℕ → ℕ) → isLoose loose ≡ true → Ranked loose rank → (net : List ℕ) × PlacedAs loose net
+  pub ranks : (loose net : List ℕ) → isLoose loose ≡ true → PlacedAs loose net → (rank : ℕ → ℕ) × Ranked loose rank
+  -- the netlist has the header of the file, and its gates are those of the order
+  pub gates : (loose net : List ℕ) → isLoose loose ≡ true → (p : PlacedAs loose net) → (length (p .order) ≡ getD loose 4 0)
+      × ((k : ℕ) → k < 5 → getD net k 0 ≡ getD loose k 0)
+      × ((m : ℕ) → m < getD loose 4 0 → (x : ℕ) × (getD (p .order) m 0 ≡ getD loose 1 0 + getD loose 2 0 + 1 + x) × RenamedGate loose (p .order) net m x)
   -- there is one such netlist
   pub one : (loose net other : List ℕ) → isLoose loose ≡ true → PlacedAs loose net → PlacedAs loose other → net ≡ other
   -- a lower gate stands at a later place only where an operand of it is the gate at the earlier place, or a later one: its

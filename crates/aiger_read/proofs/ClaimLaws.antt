@@ -12,6 +12,7 @@ use borrow.Author.Tests.{le-leb, lt-leb, eq-eqb, ne-eqb}
 use lib.Dec.{eqb, leb}
 use lib.ListN.{length, getD, take, drop, length-append, List·getD-append}
 use lib.Seq.{take-length, getD-append-seam}
+use Rattle.text.specs.Numbers.{digits}
 use Rattle.text.specs.Quoted.{bytes}
 use Rattle.text.specs.Writer.{joined}
 use Rattle.text.proofs.WriterLaws.{joined-same}
@@ -262,13 +263,13 @@ module _ (loose buf : List ℕ) (explicit : ℕ → Bool) (k : ℕ) where
       latch-misfit s (freeCount loose k) p (literalOf (latchVariable loose k) false) (literalOf (maximum loose) true) (w .0) lit next reset (p + length row) few
       (subst (λ (t : List ℕ). At s p t (p + length row)) (w .1) (at-split row more a .0)) (rw (literal-plain (latchVariable loose k), literal-inverted (maximum loose)) misfit)))
 
-  above : (lit : ℕ) (more : List ℕ) → isLoose loose ≡ true → k < outputCount loose → literalOf (maximum loose) true < lit → lit < 100000 → length (fileTo loose explicit k ++ (literalRow lit ++ more)) ≤ 65536
+  above : (lit : ℕ) (more : List ℕ) → isLoose loose ≡ true → k < outputCount loose → 2 * maximum loose + 1 < lit → lit < 100000 → length (fileTo loose explicit k ++ (literalRow lit ++ more)) ≤ 65536
       → Refuses (fileTo loose explicit k ++ (literalRow lit ++ more)) buf (FaultyLine OutOfLimits (lineOfOutput loose k))
   above lit more h l over few small =
       let s = fileTo loose explicit k ++ (literalRow lit ++ more) in
       faulty buf s OutOfLimits (lineOfOutput loose k) small
       (file-fault s loose explicit h OutOfLimits k (literalRow lit ++ more) refl l
-      (λ f p a. output-above s f p (literalOf (maximum loose) true) lit (p + length (literalRow lit)) over few (at-split (literalRow lit) more a .0)))
+      (λ f p a. output-above s f p (literalOf (maximum loose) true) lit (p + length (literalRow lit)) (omega (arith, over, literal-inverted (maximum loose))) few (at-split (literalRow lit) more a .0)))
 
   shape : (more : List ℕ) → isLoose loose ≡ true → k < outputCount loose → (StartsWithNumber more → ⊥) → length (fileTo loose explicit k ++ more) ≤ 65536
       → Refuses (fileTo loose explicit k ++ more) buf (FaultyLine WrongShape (lineOfOutput loose k))
@@ -301,10 +302,10 @@ module _ (loose order buf : List ℕ) (explicit : ℕ → Bool) where
       none
       (record {
         variable = variableOf lit;
-        literal = t .own;
+        literal = t .own ∙ literal-plain (variableOf lit);
         gate = (t .from, t .to);
         fresh = still-fresh s loose explicit h order once (variableOf lit) (t .fresh);
-        operands = (t .left, t .right);
+        operands = (rw (literal-inverted (maximum loose)) at (t .left), rw (literal-inverted (maximum loose)) at (t .right));
       }))))
 
 extra : (text loose buf more : List ℕ) → IsFile text loose → 0 < length more → length (text ++ more) ≤ 65536
@@ -314,6 +315,10 @@ extra text loose buf more f some small =
     (file-extra (text ++ more) loose (f .explicit) (f .numbers) (f .order) (f .once) (f .all) more (ap (λ (t : List ℕ). t ++ more) (f .is)) some)
 
 -- ---- the texts
+
+line-text : (n m : ℕ) (ms : List ℕ) → (line n [] ≡ digits n ++ (10 ∷ [])) × (line n (m ∷ ms) ≡ digits n ++ (32 ∷ line m ms))
+unfolding line
+line-text n m ms = (refl, refl)
 
 rows-are : (m i l o a lit next r0 r1 : ℕ) → (headerRow m i l o a ≡ bytes "aag " ++ line m (i ∷ l ∷ o ∷ a ∷ [])) × (literalRow lit ≡ line lit [])
     × (gateRow lit r0 r1 ≡ line lit (r0 ∷ r1 ∷ [])) × (latchRow false lit next 0 ≡ line lit (next ∷ [])) × (latchRow true lit next 0 ≡ line lit (next ∷ 0 ∷ []))
@@ -424,6 +429,7 @@ read-means =
       other = other;
       back = back;
       same = same;
+      line-text = line-text;
       rows = rows-are;
       lines = lines-are;
       gate-line = gate-line;

@@ -1,6 +1,6 @@
--- What the contract of read claims: it takes exactly the files, their gates in whatever order; the netlist that it gives
--- means what the file means; files with their gates in order read as before; gates that wait on each other are told as
--- such; and every fault of a line is told at that line. Assumes nothing.
+-- What the contract of read claims: it takes exactly the files, their gates in whatever order, that do not wait on
+-- each other; the netlist that it gives means what the file means; files with their gates in order read as before;
+-- gates that wait on each other are told as such; and every fault of a line is told at that line. Assumes nothing.
 use mathlib.Core.Path.{_≡_}
 use mathlib.Core.Bool.{Bool, true, false}
 use mathlib.Core.List.{List, [], _∷_, _++_}
@@ -8,6 +8,7 @@ use mathlib.Core.Logic.{_⊎_}
 use Prim.Native.Nat.{ℕ, _+_, _*_, _<_, _≤_}
 use lib.ListN.{length, getD, take, drop}
 use Rattle.text.specs.Quoted.{bytes}
+use Rattle.text.specs.Numbers.{digits}
 use Rattle.text.specs.Writer.{joined}
 use Rattle.netlist.specs.Layout.{maximum, inputCount, latchCount, outputCount, gateCount, sizeOf}
 use Rattle.netlist.specs.Literals.{literalOf}
@@ -113,10 +114,10 @@ NoLatch loose k lit next reset =
 -- and two literals of the file
 pub record Defines (loose order : List ℕ) (lit r0 r1 : ℕ) : Type 0 where
   pub variable : ℕ
-  pub literal : lit ≡ literalOf variable false
+  pub literal : lit ≡ 2 * variable
   pub gate : (firstGate loose ≤ variable) × (variable ≤ maximum loose)
   pub fresh : (k : ℕ) → k < length order → getD order k 0 ≡ variable → ⊥
-  pub operands : (r0 ≤ literalOf (maximum loose) true) × (r1 ≤ literalOf (maximum loose) true)
+  pub operands : (r0 ≤ 2 * maximum loose + 1) × (r1 ≤ 2 * maximum loose + 1)
 
 -- what a read is refused with, the buffer as it was
 abbrev pub Refuses : List ℕ → List ℕ → Cause → Type 0
@@ -169,6 +170,8 @@ pub record ReadMeans : Type 0 where
       → take (sizeOf net) net ≡ take (sizeOf other) other
   -- ---- the texts
 
+  -- a line is its numbers in decimal, parted by single blanks, and an LF
+  pub line-text : (n m : ℕ) (ms : List ℕ) → (line n [] ≡ digits n ++ (10 ∷ [])) × (line n (m ∷ ms) ≡ digits n ++ (32 ∷ line m ms))
   -- the lines of a file, by their numbers
   pub rows : (m i l o a lit next r0 r1 : ℕ) → (headerRow m i l o a ≡ bytes "aag " ++ line m (i ∷ l ∷ o ∷ a ∷ [])) × (literalRow lit ≡ line lit [])
       × (gateRow lit r0 r1 ≡ line lit (r0 ∷ r1 ∷ [])) × (latchRow false lit next 0 ≡ line lit (next ∷ [])) × (latchRow true lit next 0 ≡ line lit (next ∷ 0 ∷ []))
@@ -213,7 +216,7 @@ pub record ReadMeans : Type 0 where
       → Refuses (toLatch loose explicit k ++ (row ++ more)) buf (FaultyLine OutOfLimits (inputCount loose + 2 + k))
   -- where the line of output k is due, that of a number above the largest literal breaks the limits, there
   pub above : (loose buf : List ℕ) (explicit : ℕ → Bool) (k lit : ℕ) (more : List ℕ) → isLoose loose ≡ true → k < outputCount loose
-      → literalOf (maximum loose) true < lit → lit < 100000 → length (fileTo loose explicit k ++ (literalRow lit ++ more)) ≤ 65536
+      → 2 * maximum loose + 1 < lit → lit < 100000 → length (fileTo loose explicit k ++ (literalRow lit ++ more)) ≤ 65536
       → Refuses (fileTo loose explicit k ++ (literalRow lit ++ more)) buf (FaultyLine OutOfLimits (lineOfOutput loose k))
   -- and what is no number's line, or nothing at all, has the wrong shape, there
   pub shape : (loose buf : List ℕ) (explicit : ℕ → Bool) (k : ℕ) (more : List ℕ) → isLoose loose ≡ true → k < outputCount loose

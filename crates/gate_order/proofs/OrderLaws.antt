@@ -1,14 +1,14 @@
--- There is one order exactly where no gates wait on each other. Assumes nothing.
+-- There is one order exactly where no gates wait on each other, and where gates can be ranked. Assumes nothing.
 use mathlib.Core.Path.{_≡_, refl, sym, ap, _∙_, subst}
 use mathlib.Core.Bool.{Bool, true, false, not, _&&_, _||_, true≢false}
 use mathlib.Core.List.{List}
-use mathlib.Core.Logic.{inl, inr, ⊎-elim}
+use mathlib.Core.Logic.{_⊎_, inl, inr, ⊎-elim}
 use Prim.Native.Nat.{ℕ, zero, suc, _+_, _-_, _<_, _≤_}
 use native.Mathlib.Omega.{arith}
 use lib.Dec.{ltb}
 use lib.ListN.{length, getD, take}
 use borrow.Author.Tests.{lt-ltb, le-ltb, ltb-true, ltb-false, not-true}
-use Rattle.netlist.specs.Layout.{gateCount}
+use Rattle.netlist.specs.Layout.{gateCount, operandsAt}
 use Rattle.netlist.specs.Literals.{variableOf}
 use Rattle.netlist.proofs.EachLaws.{both}
 use Rattle.netlist.proofs.ValidLaws.{outline}
@@ -16,7 +16,7 @@ use Rattle.gate_order.specs.Loose.{firstGate, leftOf, rightOf, isLoose, 
 use Rattle.gate_order.specs.Order.{Before, Order, Stuck}
 use Rattle.gate_order.specs.Placing.{member, indexOf, Placing, ordered, waiting, isPlaced, isReady, placingOf}
 use Rattle.gate_order.proofs.LooseLaws.{loose-outline, loose-variables}
-use Rattle.gate_order.proofs.PlacingLaws.{index-stands, all-stand, some-missing, lowest-least, lowest-is, ready-tested, ready-test, Chosen, chosen-ready, chosen-inside, chosen-once, Told, told, whole-placed, waits-on}
+use Rattle.gate_order.proofs.PlacingLaws.{index-stands, index-at, all-stand, some-missing, lowest-least, lowest-is, ready-tested, ready-test, Chosen, chosen-ready, chosen-inside, chosen-once, Told, told, whole-placed, waits-on}
 
 module _ (loose : List ℕ) where
   -- the gates, and the variables of the operands of gate x
@@ -91,6 +91,10 @@ module _ (loose : List ℕ) where
     once = chosen-once first count left right order (order-chosen order o);
   }
 
+  -- a gate's index is its place
+  pub placed-at : (order : List ℕ) → Order loose order → (m x : ℕ) → m < gateCount loose → getD order m 0 ≡ x → indexOf x order ≡ m
+  placed-at order o m x l e = ap (λ (z : ℕ). indexOf z order) (sym e) ∙ index-at order (order-once order o .once) m (omega (arith, o .whole))
+
   -- ---- gates that wait on each other are in no order
   pub not-both : (order : List ℕ) → Order loose order → Stuck loose → ⊥
   not-both order o s =
@@ -109,6 +113,49 @@ module _ (loose : List ℕ) where
           let none : (m : ℕ) → m < k → s .waits (getD order m 0) ≡ true → ⊥ = λ m h. below n m (omega arith) (omega arith) in
           let r = o .ready k u in
           ⊎-elim (operand k (left (getD order k 0)) none (r .left)) (operand k (right (getD order k 0)) none (r .right)) (s .on (getD order k 0) w)
+
+  -- ---- gates can be ranked, each above its operands, exactly where they have an order
+
+  -- a variable is no gate's, or one of lower rank than that of gate k
+  abbrev pub Lower : (ℕ → ℕ) → ℕ → ℕ → Type 0
+  Lower rank k y = (y < firstGate loose) ⊎ (rank y < rank (firstGate loose + k))
+
+  -- both operands of gate k are such
+  abbrev pub BothLower : (ℕ → ℕ) → ℕ → Type 0
+  BothLower rank k = Lower rank k (variableOf (getD loose (operandsAt loose k) 0)) × Lower rank k (variableOf (getD loose (operandsAt loose k + 1) 0))
+
+  pub rank-free : (rank : ℕ → ℕ) → ((k : ℕ) → k < gateCount loose → BothLower rank k) → Stuck loose → ⊥
+  rank-free rank ranked s = below (suc (rank (s .one))) (s .one) (omega arith) (s .some)
+    where
+      operand : (n x y : ℕ) → ((z : ℕ) → rank z < n → s .waits z ≡ true → ⊥) → first ≤ x → rank x ≤ n → Lower rank (x - first) y → s .waits y ≡ true → ⊥
+      operand n x y none f l (inl h) w = let g = s .gates y w in omega (arith, h, g .0)
+      operand n x y none f l (inr h) w =
+          let e : first + (x - first) ≡ x = omega arith in
+          let lower : rank y < rank x = rw e at h in
+          none y (omega arith) w
+
+      -- none of rank below n waits
+      below : (n x : ℕ) → rank x < n → s .waits x ≡ true → ⊥
+      below zero x l w = omega arith
+      below (suc n) x l w =
+          let g = s .gates x w in
+          let b = ranked (x - first) (omega (arith, g .0, g .1)) in
+          ⊎-elim (operand n x (left x) (below n) (g .0) (omega arith) (b .0)) (operand n x (right x) (below n) (g .0) (omega arith) (b .1)) (s .on x w)
+
+  -- the places of an order rank its gates
+  pub order-ranks : (order : List ℕ) → Order loose order → (k : ℕ) → k < gateCount loose → BothLower (λ x. indexOf x order) k
+  order-ranks order o k l =
+      let h = once-all order (order-once order o) (o .whole) (first + k) (omega arith) (omega arith) in
+      let u : h .0 < count = omega (arith, h .1, o .whole) in
+      let r = o .ready (h .0) u in
+      let e : first + k - first ≡ k = omega arith in
+      let a : Before loose order (h .0) (left (first + k)) = rw (h .2) at (r .left) in
+      let b : Before loose order (h .0) (right (first + k)) = rw (h .2) at (r .right) in
+      (early (h .0) u (h .2) _ (rw e at a), early (h .0) u (h .2) _ (rw e at b))
+    where
+      early : (n : ℕ) → n < count → getD order n 0 ≡ first + k → (y : ℕ) → Before loose order n y → Lower (λ x. indexOf x order) k y
+      early n u e y (inl h) = inl h
+      early n u e y (inr b) = inr (let c = placed-at order o n (first + k) u e in let d = placed-at order o (b .0) y (omega (arith, b .1)) (b .2) in omega (arith, b .1))
 
   -- ---- the gates that placing leaves wait on each other
   module _ (order : List ℕ) where

@@ -24,16 +24,17 @@ use Rattle.gate_order.specs.Order.{Before, Order, NewVariable, NewLitera
 use Rattle.gate_order.specs.Placing.{indexOf}
 use Rattle.gate_order.specs.Renumbered.{largerFirst, newVariable, newLiteral, newLatch, newOutput, newGate, renumbered}
 use Rattle.gate_order.proofs.LooseLaws.{loose-outline, loose-variables}
-use Rattle.gate_order.proofs.PlacingLaws.{index-at}
-use Rattle.gate_order.proofs.OrderLaws.{once-all, order-once, one-order}
+use Rattle.gate_order.proofs.OrderLaws.{once-all, order-once, one-order, placed-at}
+
+-- a literal is odd where it is its variable's inverse
+pub literal-odd : (lit : ℕ) → lit % 2 ≡ cond (isInverted lit) 1 0
+unfolding isInverted
+literal-odd lit = elim (ℕ-discrete (lit % 2) 1) [ yes e ↦ rw (eq-eqb (lit % 2) 1 e) e | no d ↦ rw (ne-eqb (lit % 2) 1 d) (omega (arith, d)) ]
 
 -- a literal is that of its variable and its sign
 literal-whole : (lit : ℕ) → lit ≡ literalOf (variableOf lit) (isInverted lit)
-unfolding literalOf variableOf isInverted
-literal-whole lit = elim (ℕ-discrete (lit % 2) 1) [
-  | yes e ↦ rw (eq-eqb (lit % 2) 1 e) (omega arith)
-  | no d ↦ rw (ne-eqb (lit % 2) 1 d) (omega (arith, d))
-]
+unfolding literalOf variableOf
+literal-whole lit = let e = literal-odd lit in omega arith
 
 -- ---- two operands, the larger first
 two : {a b c d : ℕ} → a ≡ c → b ≡ d → a ∷ b ∷ [] ≡ c ∷ d ∷ []
@@ -90,16 +91,13 @@ module _ (loose order : List ℕ) where
 
   -- ---- the new literal of an old one
   module _ (o : Order loose order) where
-    placed-at : (m : ℕ) → m < gateCount loose → indexOf (getD order m 0) order ≡ m
-    placed-at m l = index-at order (order-once loose order o .once) m (omega (arith, o .whole))
-
     -- there is one
     variable-one : (x y : ℕ) → NewVariable loose order x y → y ≡ newVariable loose order x
     unfolding newVariable
     variable-one x y (inl (l, e)) = rw (lt-ltb x (firstGate loose) l) e
     variable-one x y (inr (m, l, g, e)) =
         let f : firstGate loose ≤ x = omega (arith, o .ready m l .from, g) in
-        rw (le-ltb x (firstGate loose) f) (e ∙ ap (λ (n : ℕ). firstGate loose + n) (sym (placed-at m l) ∙ ap (λ (z : ℕ). indexOf z order) g))
+        rw (le-ltb x (firstGate loose) f) (e ∙ ap (λ (n : ℕ). firstGate loose + n) (sym (placed-at loose order o m x l g)))
 
     variable-new : (x : ℕ) → x < firstGate loose + gateCount loose → NewVariable loose order x (newVariable loose order x)
     variable-new x u = elim (decLt x (firstGate loose)) [

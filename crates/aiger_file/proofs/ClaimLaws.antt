@@ -274,12 +274,14 @@ module _ (p : PackedMeans) (t : TextMeans) where
       absurd (true≢false (sym (packed-word other (λ _. false)) ∙ sym (ap (hasTag (byte "i")) e) ∙ written-word net (λ _. false)))
 
   means : ReadMeans
-  unfolding hasTag writtenIn fileOf packedOf refusalOf
+  unfolding hasTag writtenIn fileOf packedOf refusalOf packedCause
   means =
       record {
+        ends = λ r n. (refl, refl);
         numbered = λ line. (refl, refl, refl, refl, refl, refl, refl);
         word = λ more buf n after. packed-taken (bytes "aig " ++ more) buf n after (by-packed _ buf refl);
         word-told = λ more buf cause after h. (packedCause cause, packed-refused (bytes "aig " ++ more) buf cause after (by-packed _ buf refl) h, packed-numbered cause);
+        run-told = λ more buf fault after. packed-refused (bytes "aig " ++ more) buf (pack.FaultyRun fault) after (by-packed _ buf refl);
         taken = λ s buf n after none. text-taken s buf n after (other-word s buf none);
         told = λ s buf cause after none h. (textCause cause, text-refused s buf cause after (other-word s buf none) h, text-numbered cause);
         neither = neither;

@@ -19,10 +19,12 @@ use Rattle.aiger_read.specs.declared.ReadOutcome.the-variants.{Numbers as TextN
 use Rattle.aiger_read.specs.Read.{refusalOf as textRefusalOf, readEnd as textEnd, readOf as textReadOf}
 use Rattle.aiger_read.specs.Claims.{IsFile as IsText}
 use Rattle.packed_read.specs.declared.Cause.{Cause as PackedCause}
+use Rattle.packed_read.specs.declared.Cause.the-variants.{FaultyRun as PackedRun}
 use Rattle.packed_read.specs.declared.ReadOutcome.the-variants.{Numbers as PackedNumbers, Refused as PackedRefused}
 use Rattle.packed_read.specs.Read.{refusalOf as packedRefusalOf, readEnd as packedEnd, readOf as packedReadOf}
 use Rattle.aiger_file.specs.declared.Cause.{Cause}
 use Rattle.aiger_file.specs.declared.Cause.the-variants.{TextTooLong, ShortBuffer, FaultyLine, FaultyRun, WaitingGates}
+use Rattle.aiger_file.specs.declared.ReadOutcome.{ReadOutcome}
 use Rattle.aiger_file.specs.declared.ReadOutcome.the-variants.{Numbers, Refused}
 use Rattle.aiger_file.specs.Read.{refusalOf, readEnd, readOf}
 
@@ -54,6 +56,8 @@ Refuses text buf cause = readOf text buf ≡ readEnd (Refused cause) buf
 
 -- THE CLAIM, of any text and any buffer lent
 pub record ReadMeans : Type 0 where
+  -- an end has the answer and the numbers given
+  pub ends : (r : ReadOutcome) (n : List ℕ) → (readEnd r n .answer ≡ r) × (readEnd r n .net ≡ n)
   -- the causes have the numbers of the documents' tables
   pub numbered : (line : ℕ) → (refusalOf TextTooLong ≡ record { number = 1; line = 0 }) × (refusalOf ShortBuffer ≡ record { number = 12; line = 0 })
       × (refusalOf (FaultyLine WrongShape line) ≡ record { number = 13; line = line }) × (refusalOf (FaultyLine OutOfLimits line) ≡ record { number = 14; line = line })
@@ -65,6 +69,9 @@ pub record ReadMeans : Type 0 where
       → readOf (bytes "aig " ++ more) buf ≡ readEnd (Numbers n) after
   pub word-told : (more buf : List ℕ) (cause : PackedCause) (after : List ℕ) → packedReadOf (bytes "aig " ++ more) buf ≡ packedEnd (PackedRefused cause) after
       → (same : Cause) × (readOf (bytes "aig " ++ more) buf ≡ readEnd (Refused same) after) × (refusalOf same ≡ packedRefusalOf cause)
+  -- a byte run's fault is one there too
+  pub run-told : (more buf : List ℕ) (fault : Fault) (after : List ℕ) → packedReadOf (bytes "aig " ++ more) buf ≡ packedEnd (PackedRefused (PackedRun fault)) after
+      → readOf (bytes "aig " ++ more) buf ≡ readEnd (Refused (FaultyRun fault)) after
   -- whatever else is read as the reader of the text form reads it, in the same way
   pub taken : (text buf : List ℕ) (n : ℕ) (after : List ℕ) → ((more : List ℕ) → text ≡ bytes "aig " ++ more → ⊥)
       → textReadOf text buf ≡ textEnd (TextNumbers n) after → readOf text buf ≡ readEnd (Numbers n) after

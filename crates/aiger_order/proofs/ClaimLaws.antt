@@ -10,56 +10,24 @@ use native.Mathlib.Nat.{add-zero}
 use native.Mathlib.Omega.{arith}
 use borrow.Author.Tests.{le-leb, lt-leb}
 use lib.ListN.{length, getD, drop}
-use Rattle.netlist.specs.Layout.{maximum, latchCount, outputCount, gateCount, nextAt, resetAt, outputAt, operandsAt, sizeOf, latchVariable}
+use Rattle.netlist.specs.Layout.{maximum, latchCount, outputCount, gateCount, operandsAt, sizeOf}
 use Rattle.netlist.specs.Literals.{literalOf, variableOf}
-use Rattle.netlist.specs.Valid.{isFree, freeCount, isOutline}
-use Rattle.netlist.proofs.LiteralLaws.{literal-plain, literal-inverted}
-use Rattle.netlist.proofs.ValidLaws.{outline}
-use Rattle.netlist.proofs.AigerLaws.{means, outline-ok}
+use Rattle.netlist.proofs.LiteralLaws.{literal-inverted}
+use Rattle.netlist.proofs.OutlineLaws.{outline-means}
 use Rattle.gate_order.specs.Loose.{firstGate, isLoose}
 use Rattle.gate_order.specs.Order.{NewLiteral, PlacedAs, Stuck}
 use Rattle.gate_order.specs.Placing.{indexOf, Placing, ordered, waiting, placingOf}
 use Rattle.gate_order.specs.Renumbered.{renumbered}
 use Rattle.gate_order.proofs.LooseLaws.{Within, loose-outline, loose-within, loose-ok, netlist-loose}
 use Rattle.gate_order.proofs.OrderLaws.{placing-order, placing-stuck, order-placing, not-both, BothLower, rank-free, order-ranks}
-use Rattle.gate_order.proofs.MeaningLaws.{literal-within, latch-ok, placed-lowest, placed-netlist, placed-meaning}
+use Rattle.gate_order.proofs.MeaningLaws.{placed-lowest, placed-netlist, placed-meaning}
 use Rattle.gate_order.proofs.RenumberedLaws.{literal-odd, renumbered-placed, placed-renumbered, one-placed, netlist-placed}
 use Rattle.aiger_order.specs.declared.Placing.the-variants.{Placed, Waiting, ShortBuffer, NotLoose}
 use Rattle.aiger_order.specs.Place.{placeEnd, placeAs, placeOf}
-use Rattle.aiger_order.specs.Claims.{Outlined, OperandsWithin, Ranked, Renamed, RenamedGate, PlaceMeans}
+use Rattle.aiger_order.specs.Claims.{OperandsWithin, Ranked, Renamed, RenamedGate, PlaceMeans}
 
--- ---- the limits in digits
+-- ---- the operands in digits
 module _ (loose : List ℕ) where
-  outlined : isOutline loose ≡ true → Outlined loose
-  outlined is =
-      let o = outline loose is in
-      let m = literal-inverted (maximum loose) in
-      record {
-        long = o .long;
-        sum = o .sum;
-        most = o .small;
-        inputs = (o .some, o .few);
-        outputs = (o .output, o .most);
-        output = λ k l. let h = literal-within (maximum loose) (getD loose (outputAt loose k) 0) (o .outputs k l) in omega arith;
-        next = λ k l. let h = literal-within (maximum loose) (getD loose (nextAt k) 0) (o .nexts k l) in omega arith;
-        reset = λ k l. elim (o .resets k l) [ inl h ↦ inl h | inr h ↦ inr (h ∙ literal-plain (latchVariable loose k)) ];
-        free = o .free;
-      }
-
-  outlined-is : Outlined loose → isOutline loose ≡ true
-  outlined-is o =
-      let m = literal-inverted (maximum loose) in
-      let n = o .long in
-      let i = o .inputs in
-      let t = o .outputs in
-      outline-ok loose (omega arith) (means loose .either _ _ _ _ _ (o .sum) (o .most) (i .0) (i .1) (t .0) (t .1)) n
-      (λ k l. let h = o .output k l in omega arith)
-      (λ k l. latch-ok loose k (let h = o .next k l in omega arith) (elim (o .reset k l) [
-        | inl h ↦ inl h
-        | inr h ↦ let e = literal-plain (latchVariable loose k) in inr (omega arith)
-      ]))
-      (o .free)
-
   -- where operand j of all stands
   abbrev operandAt : ℕ → ℕ
   operandAt j = 5 + 2 * latchCount loose + outputCount loose + j
@@ -77,11 +45,6 @@ module _ (loose : List ℕ) where
   operands-both w k l =
       let second : operandsAt loose k + 1 ≡ operandAt (2 * k + 1) = omega arith in
       rw (second, literal-inverted (maximum loose)) (w (2 * k) (omega arith), w (2 * k + 1) (omega arith))
-
-  free : (k : ℕ) → (freeCount loose 0 ≡ 0) × (getD loose (resetAt k) 0 ≤ 1 → freeCount loose (suc k) ≡ freeCount loose k)
-      × (1 < getD loose (resetAt k) 0 → freeCount loose (suc k) ≡ freeCount loose k + 1)
-  unfolding freeCount isFree
-  free k = (refl, (λ h. rw (le-leb (getD loose (resetAt k) 0) 1 h) (add-zero (freeCount loose k))), λ h. rw (lt-leb (getD loose (resetAt k) 0) 1 h))
 
 -- ---- the ends
 
@@ -155,9 +118,9 @@ module _ (loose net : List ℕ) (p : PlacedAs loose net) where
 
 pub place-means : PlaceMeans
 place-means = record {
-  loose = λ loose o w. loose-ok loose (outlined-is loose o) (operands-both loose w);
-  within = λ loose is. (outlined loose (loose-outline loose is), operands-each loose (loose-within loose is));
-  free = free;
+  ends = λ r n. (refl, refl);
+  loose = λ loose o w. loose-ok loose (outline-means loose .taken o) (operands-both loose w);
+  within = λ loose is. (outline-means loose .within (loose-outline loose is), operands-each loose (loose-within loose is));
   other = other;
   takes = λ loose net buf is p. takes loose is net buf p;
   short = λ loose net buf is p. short loose is net buf p;

@@ -3,28 +3,17 @@ use mathlib.Core.Path.{_≡_}
 use mathlib.Core.Bool.{true, false}
 use mathlib.Core.List.{List, _++_}
 use mathlib.Core.Logic.{_⊎_}
-use Prim.Native.Nat.{ℕ, suc, _+_, _*_, _/_, _%_, _<_, _≤_}
+use Prim.Native.Nat.{ℕ, _+_, _*_, _/_, _%_, _<_, _≤_}
 use lib.ListN.{length, getD, take, drop}
 use Rattle.netlist.specs.Layout.{sizeOf}
-use Rattle.netlist.specs.Valid.{freeCount, isNetlist}
+use Rattle.netlist.specs.Valid.{isNetlist}
+use Rattle.netlist.specs.Aiger.{Outlined}
 use Rattle.gate_order.specs.Loose.{isLoose}
 use Rattle.gate_order.specs.Order.{PlacedAs, Stuck}
 use Rattle.gate_order.specs.Meaning.{SameMeaning}
+use Rattle.aiger_order.specs.declared.Placing.{Placing}
 use Rattle.aiger_order.specs.declared.Placing.the-variants.{Placed, Waiting, ShortBuffer, NotLoose}
 use Rattle.aiger_order.specs.Place.{placeEnd, placeOf}
-
--- header, latches and outputs within the limits of document 01: M = I + L + A, M ≤ 4,095, 1 ≤ I ≤ 64, O is 1 or 2; outputs
--- and next literals at most 2M + 1; a reset is 0, 1 or the latch's own literal, at most 6 of them its own
-pub record Outlined (loose : List ℕ) : Type 0 where
-  pub long : 5 + 2 * getD loose 2 0 + getD loose 3 0 + 2 * getD loose 4 0 ≤ length loose
-  pub sum : getD loose 0 0 ≡ getD loose 1 0 + getD loose 2 0 + getD loose 4 0
-  pub most : getD loose 0 0 ≤ 4095
-  pub inputs : (1 ≤ getD loose 1 0) × (getD loose 1 0 ≤ 64)
-  pub outputs : (1 ≤ getD loose 3 0) × (getD loose 3 0 ≤ 2)
-  pub output : (k : ℕ) → k < getD loose 3 0 → getD loose (5 + 2 * getD loose 2 0 + k) 0 ≤ 2 * getD loose 0 0 + 1
-  pub next : (k : ℕ) → k < getD loose 2 0 → getD loose (5 + 2 * k) 0 ≤ 2 * getD loose 0 0 + 1
-  pub reset : (k : ℕ) → k < getD loose 2 0 → (getD loose (5 + 2 * k + 1) 0 ≤ 1) ⊎ (getD loose (5 + 2 * k + 1) 0 ≡ 2 * (getD loose 1 0 + 1 + k))
-  pub free : freeCount loose (getD loose 2 0) ≤ 6
 
 -- each operand of each gate is at most 2M + 1
 abbrev pub OperandsWithin : List ℕ → Type 0
@@ -51,12 +40,11 @@ RenamedGate loose order net m x =
 
 -- THE CLAIM, of any numbers and any buffer lent
 pub record PlaceMeans : Type 0 where
+  -- an end has the answer and the numbers given
+  pub ends : (r : Placing) (n : List ℕ) → (placeEnd r n .answer ≡ r) × (placeEnd r n .net ≡ n)
   -- numbers are loose where those of header, latches and outputs are within the limits, and each operand is
   pub loose : (loose : List ℕ) → Outlined loose → OperandsWithin loose → isLoose loose ≡ true
   pub within : (loose : List ℕ) → isLoose loose ≡ true → Outlined loose × OperandsWithin loose
-  -- a latch whose reset is above 1 counts as uninitialised
-  pub free : (loose : List ℕ) (k : ℕ) → (freeCount loose 0 ≡ 0) × (getD loose (5 + 2 * k + 1) 0 ≤ 1 → freeCount loose (suc k) ≡ freeCount loose k)
-      × (1 < getD loose (5 + 2 * k + 1) 0 → freeCount loose (suc k) ≡ freeCount loose k + 1)
   -- other numbers are refused as such, the buffer as it was
   pub other : (loose buf : List ℕ) → isLoose loose ≡ false → placeOf loose buf ≡ placeEnd NotLoose buf
   -- the netlist is stored where the buffer has room for it: its numbers stand first, the surplus stays

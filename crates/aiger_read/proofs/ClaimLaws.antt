@@ -413,6 +413,7 @@ pub read-means : ReadMeans
 unfolding refusalOf
 read-means =
     record {
+      ends = λ r n. (refl, refl);
       numbered = λ line. (refl, refl, refl, refl, refl);
       takes = λ text loose net buf f p. takes text loose f buf net p;
       short = λ text loose net buf f p. short text loose f buf net p;

@@ -22,6 +22,7 @@ use Rattle.aiger_lines.specs.declared.Fault.{Fault}
 use Rattle.aiger_lines.specs.declared.Fault.the-variants.{WrongShape, OutOfLimits}
 use Rattle.aiger_read.specs.declared.Cause.{Cause}
 use Rattle.aiger_read.specs.declared.Cause.the-variants.{TextTooLong, ShortBuffer, FaultyLine, WaitingGates}
+use Rattle.aiger_read.specs.declared.ReadOutcome.{ReadOutcome}
 use Rattle.aiger_read.specs.declared.ReadOutcome.the-variants.{Numbers, Refused}
 use Rattle.aiger_read.specs.Read.{refusalOf, readEnd, readOf}
 
@@ -125,6 +126,8 @@ Refuses text buf cause = readOf text buf ≡ readEnd (Refused cause) buf
 
 -- THE CLAIM, of any text and any buffer lent
 pub record ReadMeans : Type 0 where
+  -- an end has the answer and the numbers given
+  pub ends : (r : ReadOutcome) (n : List ℕ) → (readEnd r n .answer ≡ r) × (readEnd r n .net ≡ n)
   -- the causes below have the numbers of the documents' tables
   pub numbered : (line : ℕ) → (refusalOf TextTooLong ≡ record { number = 1; line = 0 }) × (refusalOf ShortBuffer ≡ record { number = 12; line = 0 })
       × (refusalOf (FaultyLine WrongShape line) ≡ record { number = 13; line = line }) × (refusalOf (FaultyLine OutOfLimits line) ≡ record { number = 14; line = line })

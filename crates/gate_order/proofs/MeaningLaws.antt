@@ -1,7 +1,7 @@
 -- The netlist of loose numbers is a netlist, and means what the file means; where a lower gate stands later.
 -- Assumes nothing.
 use mathlib.Core.Path.{_≡_, refl, sym, ap, ap₂, subst, _∙_}
-use mathlib.Core.Bool.{Bool, true, false, not, _&&_, _||_, true≢false, and-comm, or-true}
+use mathlib.Core.Bool.{Bool, true, false, not, _&&_, true≢false, and-comm}
 use mathlib.Core.List.{List, [], _∷_}
 use mathlib.Core.Logic.{_⊎_, inl, inr}
 use Prim.Native.Nat.{ℕ, zero, suc, _+_, _-_, _*_, _<_, _≤_}
@@ -9,16 +9,16 @@ use native.Mathlib.Decide.{decLt}
 use native.Mathlib.Omega.{arith}
 use lib.ListN.{length, getD}
 use lib.Seq.{ext-getD}
-use lib.Dec.{eqb}
-use borrow.Author.Tests.{le-leb, lt-ltb, eq-eqb}
+use borrow.Author.Tests.{le-leb, lt-ltb}
 use Rattle.netlist.specs.Layout.{maximum, inputCount, latchCount, outputCount, gateCount, nextAt, resetAt, outputAt, operandsAt, inputVariable, latchVariable, gateVariable}
 use Rattle.netlist.specs.Literals.{literalOf, variableOf}
-use Rattle.netlist.specs.Valid.{isWithin, isFree, latchOk, freeCount, gateOk, isNetlist}
+use Rattle.netlist.specs.Valid.{isFree, latchOk, freeCount, gateOk, isNetlist}
 use Rattle.netlist.specs.Meaning.{bools, signed, litOf, valuesOf, nextOf, outputOf}
 use Rattle.netlist.specs.Aiger.{Satisfies, OneLane}
-use Rattle.netlist.proofs.LiteralLaws.{literal-plain, literal-inverted}
+use Rattle.netlist.proofs.LiteralLaws.{literal-plain}
 use Rattle.netlist.proofs.ValidLaws.{outline}
 use Rattle.netlist.proofs.AigerLaws.{means}
+use Rattle.netlist.proofs.OutlineLaws.{literal-within, latch-ok}
 use Rattle.netlist.proofs.MeaningLaws.{nexts-at}
 use Rattle.gate_order.specs.Loose.{firstGate, leftOf, rightOf, isLoose}
 use Rattle.gate_order.specs.Order.{Before, Ready, Order, NewVariable, NewLiteral, PlacedAs}
@@ -32,22 +32,7 @@ literal-below : (v lit : ℕ) → variableOf lit < v → lit < literalOf v false
 unfolding variableOf
 literal-below v lit h = let e = literal-plain v in omega arith
 
-pub literal-within : (v lit : ℕ) → variableOf lit ≤ v → lit ≤ literalOf v true
-unfolding variableOf
-literal-within v lit h = let e = literal-inverted v in omega arith
-
 module _ (net : List ℕ) (k : ℕ) where
-  reset-ok : (own : ℕ) → (getD net (resetAt k) 0 ≤ 1) ⊎ (getD net (resetAt k) 0 ≡ own)
-      → (not (isFree net k) || eqb (getD net (resetAt k) 0) own) ≡ true
-  unfolding isFree
-  reset-ok own (inl h) = rw (le-leb _ _ h)
-  reset-ok own (inr h) = rw (eq-eqb _ _ h) (or-true (not (isFree net k)))
-
-  pub latch-ok : getD net (nextAt k) 0 ≤ literalOf (maximum net) true
-      → (getD net (resetAt k) 0 ≤ 1) ⊎ (getD net (resetAt k) 0 ≡ literalOf (latchVariable net k) false) → latchOk net k ≡ true
-  unfolding latchOk isWithin
-  latch-ok h r = ap₂ _&&_ (le-leb _ _ h) (reset-ok (literalOf (latchVariable net k) false) r)
-
   gate-ok : getD net (operandsAt net k) 0 < literalOf (gateVariable net k) false → getD net (operandsAt net k + 1) 0 ≤ getD net (operandsAt net k) 0
       → gateOk net k ≡ true
   unfolding gateOk

@@ -10,7 +10,6 @@ use borrow.Author.Tests.{lt-ltb, le-ltb, ltb-true, ltb-false, eq-eqb, ne-eqb}
 use lib.Dec.{ltb}
 use lib.ListN.{length, getD, take}
 use lib.Seq.{getD-take, length-take-le}
-use Rattle.text.specs.Writer.{joined}
 use Rattle.text.proofs.WriterLaws.{joined-same}
 use Rattle.netlist.specs.Layout.{maximum, inputCount, latchCount, outputCount, gateCount, nextAt, resetAt, outputAt, operandsAt, sizeOf}
 use Rattle.netlist.specs.Literals.{literalOf, variableOf, isInverted}
@@ -21,7 +20,6 @@ use Rattle.aiger_lines.proofs.LayoutLaws.{Pieces, pairAt, oneAt, made}
 use Rattle.aiger_lines.proofs.NetLaws.{Laid, laid}
 use Rattle.gate_order.specs.Loose.{firstGate, leftOf, rightOf, isLoose}
 use Rattle.gate_order.specs.Order.{Before, Order, NewVariable, NewLiteral, NewGate, PlacedAs}
-use Rattle.gate_order.specs.Placing.{indexOf}
 use Rattle.gate_order.specs.Renumbered.{largerFirst, newVariable, newLiteral, newLatch, newOutput, newGate, renumbered}
 use Rattle.gate_order.proofs.LooseLaws.{loose-outline, loose-variables}
 use Rattle.gate_order.proofs.OrderLaws.{once-all, order-once, one-order, placed-at}

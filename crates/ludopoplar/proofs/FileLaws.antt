@@ -24,6 +24,7 @@ pub writes : (file net before : List ℕ) (was : ℕ) (end : Filled) → end ≡
 unfolding writeWith circuits.writeAs codeOf write.refusalOf
 writes file net before was end is =
     record {
+      ends = λ c b n. (refl, refl, refl);
       written = λ h l. is ∙ ap (λ (e : WriteEnd). writeWith e was) (written file net before h l);
       not-netlist = λ h. is ∙ ap (λ (e : WriteEnd). writeWith e was) (no-netlist file net before h);
       short = λ h l. is ∙ ap (λ (e : WriteEnd). writeWith e was) (too-short file net before h l);
@@ -56,6 +57,7 @@ module _ (means : ReadMeans) (text before : List ℕ) (each : (k : ℕ) → getD
   unfolding circuits.readAs codeOf read.refusalOf
   reads =
       record {
+        ends = λ c b n. (refl, refl, refl);
         taken = λ net f l. ends _ (means .takes text net before f l);
         short = λ net f l. ends _ (means .short text net before f l);
         waits = λ w. ends _ (means .waits text before w);

@@ -15,6 +15,8 @@ use Rattle.ludopoplar.specs.Circuits.{Filled, filled}
 -- ---- write, of whichever form: a netlist's file is handed out where it fits, with its length; else numbers that are no
 -- netlist are 16, a short buffer is 12, and buffer and result stay as they were
 pub record CallWrites (file net before : List ℕ) (was : ℕ) (end : Filled) : Type 0 where
+  -- an end has the code, the bytes and the result given
+  pub ends : (c : ℕ) (b : List ℕ) (n : ℕ) → (filled c b n .code ≡ c) × (filled c b n .buffer ≡ b) × (filled c b n .result ≡ n)
   pub written : isNetlist net ≡ true → length file ≤ length before → end ≡ filled 0 (file ++ drop (length file) before) (length file)
   pub not-netlist : isNetlist net ≡ false → end ≡ filled (16 * 2 ^ 32) before was
   pub short : isNetlist net ≡ true → length before < length file → end ≡ filled (12 * 2 ^ 32) before was
@@ -23,6 +25,8 @@ pub record CallWrites (file net before : List ℕ) (was : ℕ) (end : Filled) : 
 -- that wait on each other are 23, whatever the buffer; else the code is number × 2^32 + line of what read is refused with,
 -- and buffer and result stay as they were
 pub record CallReads (text before : List ℕ) (was : ℕ) (end : Filled) : Type 0 where
+  -- an end has the code, the numbers and the result given
+  pub ends : (c : ℕ) (b : List ℕ) (n : ℕ) → (filled c b n .code ≡ c) × (filled c b n .buffer ≡ b) × (filled c b n .result ≡ n)
   pub taken : (net : List ℕ) → IsFile text net → length net ≤ length before → end ≡ filled 0 (net ++ drop (length net) before) (length net)
   pub short : (net : List ℕ) → IsFile text net → length before < length net → end ≡ filled (12 * 2 ^ 32) before was
   pub waits : IsWaiting text → end ≡ filled (23 * 2 ^ 32) before was

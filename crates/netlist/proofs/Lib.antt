@@ -5,3 +5,4 @@ pub mod ValidLaws
 pub mod LaneLaws
 pub mod MeaningLaws
 pub mod AigerLaws
+pub mod OutlineLaws

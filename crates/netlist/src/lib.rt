@@ -4,7 +4,7 @@
 // lane the values of a cycle are the one valuation that satisfies AIGER's equations.
 ghost use mathlib.Core.Path.{_≡_};
 ghost use Rattle.netlist.specs.Valid.{isOutline, isNetlist};
-ghost use Rattle.netlist.specs.Aiger.{Means};
+ghost use Rattle.netlist.specs.Aiger.{OutlineMeans, Means};
 
 pub mod literals;
 mod valid;
@@ -15,6 +15,7 @@ pub use literals::Variable;
 // Whether the numbers lent are a netlist but for their gates, which may be anything.
 pub fn is_outline(net: &[u16]) -> bool
     ensures { λ r. ⌜ r ≡ isOutline (now (net .entry)) ⌝ }
+    ensures meaning { λ _. ⌜ OutlineMeans (now (net .entry)) ⌝ }
 {
     valid::outline(net)
 }

@@ -12,14 +12,14 @@ use Rattle.aiger_order.proofs.limits.is_loose.Statement.{statement}
 use Rattle.aiger_order.proofs.limits.is_loose.Tie as tie
 
 whole : (c : tie.Else1) → isOutline (c .before .before .before .args .loose .now) ≡ true
-whole c = sym (c .before .is-outline .ensures) ∙ not-false _ (c .if1 .left)
+whole c = sym (c .before .is-outline .ensures .0) ∙ not-false _ (c .if1 .left)
 
 is-outline-requires : tie.Need-is-outline-requires
 is-outline-requires c κs = search needs
 
 returns : tie.Need-returns
 unfolding isLoose
-returns c = let e = sym (c .before .is-outline .ensures) ∙ not-true _ (c .if1 .taken) in rw e
+returns c = let e = sym (c .before .is-outline .ensures .0) ∙ not-true _ (c .if1 .taken) in rw e
 
 gates-of-requires : tie.Need-gates-of-requires
 gates-of-requires c κs = whole c

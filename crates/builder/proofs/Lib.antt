@@ -1,4 +1,4 @@
--- The laws that belong to no one function.
+-- The laws that belong to no one function. Crates above cite GraphLaws and DemandLaws.
 mod AddingLaws
 mod TermLaws
 mod AlikeLaws
@@ -6,7 +6,7 @@ mod FormulaLaws
 mod EdgeLaws
 mod BuildLaws
 mod LayoutLaws
-mod GraphLaws
+pub mod GraphLaws
 mod CountLaws
 mod EndLaws
-mod DemandLaws
+pub mod DemandLaws

@@ -1,6 +1,6 @@
 -- The monitor has as many gates as document 01's formula says, and at most 10 for an edge and 3 for an operator. Assumes nothing.
-use Prim.Native.Nat.{ℕ, zero, suc, _+_, _-_, _*_, _<_, _≤_}
-use mathlib.Core.Path.{_≡_, refl, ap}
+use Prim.Native.Nat.{ℕ, zero, suc, _+_, _-_, _*_, _<_, _≤_, min}
+use mathlib.Core.Path.{_≡_, refl, ap, _∙_}
 use mathlib.Core.Bool.{Bool, true, false, cond}
 use mathlib.Core.List.{List, [], _∷_, _++_}
 use native.Mathlib.Omega.{arith}
@@ -279,3 +279,19 @@ terminals-most g (e ∷ es) = omega (arith, one-most (isTerminal g e), terminals
 pub bound : (g : Graph) → gateFormula g ≤ 10 * length (g .edges) + 3 * allOperators (g .edges)
 unfolding gateFormula
 bound g = omega (arith, terminals-most g (g .edges), formulas-most (g .edges))
+
+-- ---- no operators: two gates less, since the vertex to which an edge goes has an incoming edge
+entered-some : (k v t : ℕ) (e : Edge) (es : List Edge) → e .to ≡ t → v ≤ t → t < v + k → 1 ≤ entered v k (e ∷ es)
+entered-some zero v t e es q h l = absurd (omega arith)
+entered-some (suc k) v t e es q h l = elim (ℕ-discrete t v) [
+  | yes d ↦ let i : _≡_ {A = ℕ} (cond (eqb (e .to) v) 1 0) 1 = rw (eq-eqb (e .to) v (q ∙ d)) in omega (arith, i)
+  | no d ↦ omega (arith, entered-some k (suc v) t e es q (omega (arith, d)) (omega arith))
+]
+
+pub most : (g : Graph) → Fits g → allOperators (g .edges) ≡ 0 → gateFormula g ≤ 10 * length (g .edges) - 2
+unfolding gateFormula
+most g fits none = omega (arith, terminals-most g (g .edges), formulas-most (g .edges), some _ _ (g .edges) (fits .edges))
+  where
+    some : (s k : ℕ) (es : List Edge) → AllFit s k (length (g .vertices)) es → min 1 (length es) ≤ entered 0 (length (g .vertices)) es
+    some s k [] f = omega arith
+    some s k (e ∷ es) f = omega (arith, entered-some (length (g .vertices)) 0 (e .to) e es refl (omega arith) (omega (arith, f .0 .to)))

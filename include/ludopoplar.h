@@ -1,7 +1,8 @@
 /* Ludopoplar: monitor circuits of assertion graphs. Builds the circuit of a graph text, writes and reads
    circuits as AIGER files, runs them cycle by cycle, counts the cycles in which a rule was at stake, tells
-   rejections in a million cycles, finds the line that was rejected first in the two traces of a session, and
-   lays the verdicts of a run out as a page for the wall.
+   rejections in a million cycles, finds the line that was rejected first in the two traces of a session, lays
+   the verdicts of a run out as a page for the wall, and writes the dearest graph of so many edges, from which a
+   gate array is sized.
 
    Link with libludopoplar.a (x86-64 Linux). It needs memcpy and memset of the C library and nothing else.
 
@@ -50,6 +51,7 @@
        21     0      tally: no cycle, or more rejected than cycles
        22     0      session page: graph name not of 1 to 24 letters, digits or _, or a verdict above 1
        23     0      AIGER, ASCII form: gates that wait on each other, or a gate on itself
+       24     0      dearest graph: number of edges outside 1 to 128
        25     0      verdicts: not one byte for each line of their trace, or a byte above 1
        26     0      width of lines outside 1 to 64
 
@@ -58,8 +60,8 @@
      among them, then of a packed file its byte runs in order, each for 18 before 14, and 18 for what follows
      them, of an ASCII file 23, then 12; write, packed write and start 16, 12; step 16, 15, 12, 17; run 1, then
      as step; per million 21; broken check 1 of either trace, 26, 15 of the flywheel trace, 15 of the handle
-     trace, 25; session page 1, 22, 12. A call whose name ends in _checked checks what the one without it
-     checks, in the same order.
+     trace, 25; session page 1, 22, 12; dearest graph 24, 12. A call whose name ends in _checked checks what the
+     one without it checks, in the same order.
 
    Netlist: uint16_t numbers, 5 + 2L + O + 2A of them, at most 8,195
      M I L O A               highest variable, inputs, latches, outputs, AND gates
@@ -228,6 +230,17 @@ uint64_t ludo_broken_line(uint64_t width, const uint8_t *flywheel, size_t flywhe
    most 4,246,911. Other names or other verdicts give another page. */
 uint64_t ludo_session_page(const uint8_t *name, size_t name_len, const uint8_t *verdicts, size_t verdicts_len,
                            uint8_t *page, size_t page_len, uint64_t *length);
+
+/* Writes the dearest graph of `edges` edges, 1 to 128, into `text`; `*length` is its number of bytes,
+   4 + 12 * edges, so at most 1,540. The graph has one vertex, a, and on it `edges` self-loops with mark t and
+   labels 1 and 1. With two edges, lines parted by | and fields by blanks:
+
+     V a | E a a t 1 1 | E a a t 1 1
+
+   ludo_build makes 10 * edges - 2 gates of it, in a netlist of 24 * edges + 2 numbers. No graph with as many
+   edges and without & ^ | = and == costs more, whatever its mode, names, vertices and marks; ! and brackets cost
+   nothing. ludo_build_checked adds gates of its own. */
+uint64_t ludo_dearest_graph(uint64_t edges, uint8_t *text, size_t text_len, uint64_t *length);
 
 #ifdef __cplusplus
 }

@@ -36,13 +36,13 @@ abbrev edge : ℕ → Bool → Edge
 edge to mark =
     record { from = 0; to = to; marked = mark; antecedent = truth true; consequent = truth true; antecedentText = bytes "1"; consequentText = bytes "1" }
 
--- `E a a - !1 !!0`
-abbrev inverted : Edge
-inverted =
+-- a self-loop with labels `!1` / `!!0`
+abbrev inverted : Bool → Edge
+inverted mark =
     record {
       from = 0;
       to = 0;
-      marked = false;
+      marked = mark;
       antecedent = neg (truth true);
       consequent = neg (neg (truth false));
       antecedentText = bytes "!1";
@@ -50,20 +50,20 @@ inverted =
     }
 
 -- `!` is no operator
-no-operator : allOperators (inverted ∷ []) ≡ 0
+no-operator : allOperators (inverted true ∷ []) ≡ 0
 unfolding operators
 no-operator = refl
 
 abbrev costOf : List Bytes → List Edge → ℕ
 costOf vertices edges = length (gatesOf (record { mode = Unsaid; signals = []; constants = []; vertices = vertices; edges = edges }))
 
--- an unmarked self-loop reaches 8; `a` to `b` costs one less. Of two edges, at most 18: `a a` and `a b`; two self-loops, one of
--- them unmarked and with `!`
+-- of one edge, at most 8: an unmarked self-loop; `a b`. Of two, at most 18: `a a` and `a b`; two self-loops with `!`, one of
+-- them unmarked
 costs-of-others :
     costOf (bytes "a" ∷ []) (edge 0 false ∷ [])
     ∷ costOf (bytes "a" ∷ bytes "b" ∷ []) (edge 1 true ∷ [])
     ∷ costOf (bytes "a" ∷ bytes "b" ∷ []) (edge 0 true ∷ edge 1 true ∷ [])
-    ∷ costOf (bytes "a" ∷ []) (edge 0 true ∷ inverted ∷ [])
+    ∷ costOf (bytes "a" ∷ []) (inverted true ∷ inverted false ∷ [])
     ∷ []
     ≡ 8 ∷ 7 ∷ 16 ∷ 17 ∷ []
 unfolding gatesOf accepted judged gathered masked firstGate firstEdgeLatch edgePiece condemnedOr happyOr formula gate inv literalOf variableOf isInverted isTerminal bitsOf signalBits constantBits

@@ -5,3 +5,5 @@ mod SessionLaws
 mod PageLaws
 mod FileLaws
 mod CallLaws
+mod GraphLaws
+mod Examples

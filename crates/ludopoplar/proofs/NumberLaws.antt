@@ -30,6 +30,9 @@ use Rattle.first_broken.specs.Refusals as sessions
 use Rattle.session_page.specs.declared.Cause as page
 use Rattle.session_page.specs.declared.Cause.the-variants as laid
 use Rattle.session_page.specs.LayOut as pages
+use Rattle.dearest_graph.specs.declared.Cause as dearest
+use Rattle.dearest_graph.specs.declared.Cause.the-variants as unwritten
+use Rattle.dearest_graph.specs.Write as graphs
 use Rattle.ludopoplar.specs.Codes.{codeOf}
 use Rattle.ludopoplar.specs.Claims.{Numbered}
 
@@ -98,6 +101,11 @@ lays laid.TooManyCycles = omega arith
 lays laid.ShortBuffer = omega arith
 lays laid.NotPrintable = omega arith
 
+dearests : (cause : dearest.Cause) → 1 ≤ graphs.refusalOf cause .number
+unfolding graphs.refusalOf
+dearests unwritten.EdgesOutside = omega arith
+dearests unwritten.ShortBuffer = omega arith
+
 number-back : (r : Refusal) → r .line < 4294967296 → codeOf r / 4294967296 ≡ r .number
 unfolding codeOf
 number-back r h = omega arith
@@ -116,6 +124,7 @@ numbered =
       rate-numbered = rates-numbered;
       check-numbered = checks;
       page-numbered = lays;
+      dearest-numbered = dearests;
       number-told = number-back;
       line-told = line-back;
     }

@@ -6,6 +6,7 @@ pub mod CheckedRuns
 pub mod Rates
 pub mod Sessions
 pub mod Pages
+pub mod Graphs
 pub mod FileClaims
 pub mod CallClaims
 pub mod Claims

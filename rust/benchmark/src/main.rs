@@ -1,6 +1,6 @@
 //! Measures the proved library beside the reference and, for `run`, a C loop; `run` with two
-//! outputs beside `run` with one; files of the packed form beside those of text; and texts whose
-//! gates stand in other orders.
+//! outputs beside `run` with one; files of the packed form beside those of text; texts whose gates
+//! stand in other orders; and the writing of the dearest graph.
 //! The results of all of them are compared before anything is timed.
 
 mod bench;
@@ -18,10 +18,12 @@ use std::fmt::Debug;
 use std::hint::black_box;
 
 const RUNS: usize = 7;
-/// Repetitions of `build`, of `read` and the writers, and of a row of steps.
+/// Repetitions of `build`, of `read` and the writers, and of a row of steps or texts.
 const SHORT_CALLS: usize = 300;
 /// Cycles in a row of steps.
 const STEPS: usize = 100;
+/// Texts in a row of dearest graphs.
+const TEXTS: usize = 100;
 
 fn main() {
     println!(
@@ -42,6 +44,7 @@ fn main() {
     );
     report_build_by_size();
     report_read_by_order();
+    report_dearest_graph();
 }
 
 /// The calls on the netlist with one output, and `run` on that with two beside it.
@@ -331,6 +334,28 @@ fn report_read_by_order() {
             ratio(reference, library),
         );
     }
+}
+
+/// Of as many edges as a graph may have.
+fn report_dearest_graph() {
+    const EDGES: u64 = 128;
+    let (mut text, mut other) = ([0; 1_540], [0; 1_540]);
+    accepted(ludopoplar::dearest_graph(EDGES, &mut text));
+    accepted(reference::dearest_graph(EDGES, &mut other));
+    assert_eq!(text, other, "the graphs differ");
+    let [library, reference] = best(
+        SHORT_CALLS,
+        [
+            &mut || (0..TEXTS).for_each(|_| accepted(ludopoplar::dearest_graph(EDGES, &mut text))),
+            &mut || (0..TEXTS).for_each(|_| accepted(reference::dearest_graph(EDGES, &mut other))),
+        ],
+    );
+    println!(
+        "\ndearest graph of {EDGES} edges\n  write  {}, {}; reference {}",
+        duration(library / TEXTS as f64),
+        megabytes(TEXTS * text.len(), library),
+        ratio(reference, library),
+    );
 }
 
 /// Lets no part of a timed call be left out as unused.

@@ -1,15 +1,18 @@
 //! The cases: one call, or a list of calls on one netlist; and now and then a session, a session
-//! page, a packed file, or a text with its gates in any order.
+//! page, a packed file, a text with its gates in any order, or the dearest graph.
 
 use crate::bench::Bench;
 use crate::compare::{Call, Lengths, Memory, Mismatch, Name};
+use crate::gates::check_gates;
 use crate::random::Random;
 use crate::round_trip::{both_forms, write_and_read_back};
-use crate::{aigers, graphs, loose, netlists, packs, pages, rates, sequence, sessions, traces};
-use reference::{formula_of_gates, Edge, Graph, Netlist, Outputs, Tally};
+use crate::{
+    aigers, graphs, loose, netlists, packs, pages, rates, sequence, sessions, texts, traces,
+};
+use reference::{Netlist, Tally};
 
-/// The session, then the page, then the packed file and then the text of loose gates are drawn
-/// last, so that the others' draws do not depend on them.
+/// The session, then the page, then the packed file, then the text of loose gates and then the
+/// dearest graph are drawn last, so that the others' draws do not depend on them.
 pub fn case(bench: &mut Bench) -> Result<(), Mismatch> {
     calls(bench)?;
     if bench.random.once_in(4) {
@@ -24,6 +27,9 @@ pub fn case(bench: &mut Bench) -> Result<(), Mismatch> {
     if bench.random.coin() {
         let file = loose::any(&mut bench.random);
         read_file(bench, file)?;
+    }
+    if bench.random.once_in(4) {
+        texts::any(bench)?;
     }
     Ok(())
 }
@@ -54,32 +60,9 @@ fn build(bench: &mut Bench) -> Result<(), Mismatch> {
     let call = Call::on_bytes(Name::building(outputs), graph);
     let outcome = bench.compare(&call, memory)?;
     if outcome.is_accepted() {
-        check_gates(&call.bytes, outputs, outcome.memory.answer)?;
+        check_gates(bench, &call.bytes, outputs, outcome.memory.answer)?;
     }
     Ok(())
-}
-
-/// "The number of gates built is exactly what document 01's formula says, never
-/// above 10 × edges + 3 × operators", with checked "12 × edges + 3 × operators"; here
-/// without the operator `!`.
-fn check_gates(text: &[u8], outputs: Outputs, gates: u64) -> Result<(), Mismatch> {
-    let graph = Graph::parse(text).expect("an accepted graph");
-    let of_edge = |edge: &Edge| edge.antecedent.operators() + edge.consequent.operators();
-    let operators: usize = graph.edges.iter().map(of_edge).sum();
-    let an_edge = match outputs {
-        Outputs::Accept => 10,
-        Outputs::AcceptAndChecked => 12,
-    };
-    let bound = an_edge * graph.edges.len() + 3 * operators;
-    let due = formula_of_gates(&graph, outputs);
-    if gates == due as u64 && due <= bound {
-        return Ok(());
-    }
-    let text = text.escape_ascii();
-    let name = Name::building(outputs);
-    Err(Mismatch(format!(
-        "call: {name:?}\ngraph: \"{text}\"\n{gates} gates, by the formula {due}, at most {bound}\n"
-    )))
 }
 
 fn read(bench: &mut Bench) -> Result<(), Mismatch> {

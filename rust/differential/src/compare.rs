@@ -24,6 +24,7 @@ pub enum Name {
     BrokenCheck,
     BrokenLine,
     SessionPage,
+    DearestGraph,
 }
 
 impl Name {
@@ -63,6 +64,8 @@ pub struct Call {
     session: Option<Session>,
     /// What `SessionPage` reads instead.
     record: Option<Record>,
+    /// What `DearestGraph` is told instead.
+    edges: Option<u64>,
 }
 
 impl Call {
@@ -77,6 +80,7 @@ impl Call {
             bytes,
             session: None,
             record: None,
+            edges: None,
         }
     }
 
@@ -105,6 +109,17 @@ impl Call {
 
     fn record(&self) -> &Record {
         self.record.as_ref().expect("a call on a record")
+    }
+
+    pub fn dearest_graph(edges: u64) -> Call {
+        Call {
+            edges: Some(edges),
+            ..Call::on_bytes(Name::DearestGraph, Vec::new())
+        }
+    }
+
+    fn edges(&self) -> u64 {
+        self.edges.expect("a call with a number of edges")
     }
 }
 
@@ -155,7 +170,7 @@ pub struct Lengths {
 #[derive(Clone, PartialEq)]
 pub struct Memory {
     pub net: Lent<u16>,
-    /// An AIGER file of either form or a session page.
+    /// An AIGER file of either form, a session page or a graph.
     pub text: Lent<u8>,
     pub latches: Lent<u64>,
     pub values: Lent<u64>,
@@ -285,6 +300,7 @@ fn library(call: &mut Call, memory: &mut Memory) -> u64 {
             let (record, page) = (call.record(), memory.text.get_mut());
             raw::session_page(record.name(), record.verdicts(), page, answer)
         }
+        Name::DearestGraph => raw::dearest_graph(call.edges(), memory.text.get_mut(), answer),
     }
 }
 
@@ -341,6 +357,7 @@ fn reference_call(call: &Call, memory: &mut Memory) -> Result<(), Refusal> {
             let (record, page) = (call.record(), memory.text.get_mut());
             reference::session_page(record.name(), record.verdicts(), page)? as u64
         }
+        Name::DearestGraph => reference::dearest_graph(call.edges(), memory.text.get_mut())? as u64,
     };
     memory.answer = answer;
     Ok(())
@@ -419,6 +436,13 @@ fn told(call: &Call, tally: Tally, memory: &Memory, differences: &str) -> String
         let lent = memory.text.length;
         return format!(
             "call: {:?}\n{record}\npage of {lent} bytes lent\n{differences}",
+            call.name
+        );
+    }
+    if let Some(edges) = call.edges {
+        let lent = memory.text.length;
+        return format!(
+            "call: {:?}\n{edges} edges, text of {lent} bytes lent\n{differences}",
             call.name
         );
     }

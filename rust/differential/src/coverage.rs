@@ -1,7 +1,7 @@
 //! How often each call was accepted, and refused with each number; of the graphs how often
-//! each rule chose their terminal edges, and what they have of names wider than a bit; what
-//! the calls have of a second output; of packed files what they have and are refused for; and of
-//! texts in what order their gates stand.
+//! each rule chose their terminal edges, what they have of names wider than a bit, and how many
+//! without operators reach the bound of their gates; what the calls have of a second output; of
+//! packed files what they have and are refused for; and of texts in what order their gates stand.
 
 use crate::compare::{Name, Outcome};
 use crate::forms::Forms;
@@ -13,7 +13,7 @@ use std::collections::BTreeMap;
 use std::fmt;
 
 /// Every number each call can be refused with; `BrokenLine` never is.
-const REFUSALS: [(Name, &[u32]); 14] = [
+const REFUSALS: [(Name, &[u32]); 15] = [
     (Name::Build, &[1, 2, 3, 4, 5, 6, 7, 8, 9, 10, 11, 12, 19]),
     (
         Name::BuildChecked,
@@ -31,11 +31,14 @@ const REFUSALS: [(Name, &[u32]); 14] = [
     (Name::PerMillion, &[21]),
     (Name::BrokenCheck, &[1, 15, 25, 26]),
     (Name::SessionPage, &[1, 12, 22]),
+    (Name::DearestGraph, &[12, 24]),
 ];
 
 /// What a graph's first line says, and which of its edges are marked.
 const MODES: [&str; 3] = ["no M line", "M terminal", "M strong"];
 const MARKS: [&str; 4] = ["all marked", "some marked", "none marked", "no edge"];
+/// What a graph with edges and no operators costs without checked.
+const COSTS: [&str; 2] = ["fewer than 10E - 2 gates", "10E - 2 gates"];
 
 #[derive(Default)]
 pub struct Coverage {
@@ -45,6 +48,8 @@ pub struct Coverage {
     graphs: BTreeMap<(&'static str, &'static str), u64>,
     /// The graphs refused at a line whose first field is `M`, by number.
     mode_refused: BTreeMap<u32, u64>,
+    /// The random graphs with edges and no operators that were built without checked, by cost.
+    plain: [u64; 2],
     /// All graphs, by widths, bits and comparisons.
     kinds: Kinds,
     /// All calls, by outputs and tallies.
@@ -88,6 +93,11 @@ impl Coverage {
             *self.mode_refused.entry(outcome.number).or_default() += 1;
         }
         self.kinds.record(text, outputs, outcome);
+    }
+
+    /// Counts a graph without operators, by whether it reaches the bound of its gates.
+    pub fn record_plain(&mut self, is_dearest: bool) {
+        self.plain[usize::from(is_dearest)] += 1;
     }
 
     /// Counts the cycles that were judged by the paths of a graph, and those rejected.
@@ -154,6 +164,11 @@ impl Coverage {
         for number in [2, 3] {
             if self.mode_refused(number) == 0 {
                 gaps.push(format!("{number} at an M line"));
+            }
+        }
+        for (cost, count) in COSTS.iter().zip(self.plain) {
+            if count == 0 {
+                gaps.push(format!("a graph without operators of {cost}"));
             }
         }
         gaps.extend(self.kinds.gaps());
@@ -229,6 +244,11 @@ impl fmt::Display for Coverage {
             "M lines refused: 2:{} 3:{}",
             self.mode_refused(2),
             self.mode_refused(3)
+        )?;
+        let ([cheaper, dearest], [fewer, most]) = (self.plain, COSTS);
+        writeln!(
+            f,
+            "graphs without operators: {fewer} {cheaper}, {most} {dearest}"
         )?;
         writeln!(f, "{}", self.kinds)?;
         writeln!(f, "{}", self.stakes)?;

@@ -12,6 +12,7 @@ mod compare;
 mod coverage;
 mod damage;
 mod forms;
+mod gates;
 mod graphs;
 mod kinds;
 mod loose;
@@ -28,6 +29,7 @@ mod sessions;
 mod shuffled;
 mod stakes;
 mod sweep;
+mod texts;
 mod traces;
 mod widths;
 

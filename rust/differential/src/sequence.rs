@@ -7,6 +7,7 @@
 
 use crate::bench::Bench;
 use crate::compare::{Call, Lengths, Memory, Mismatch, Name, Outcome};
+use crate::gates::check_gates;
 use crate::pages::compare_page;
 use crate::random::Random;
 use crate::rates::compare_rate;
@@ -104,6 +105,7 @@ fn built(bench: &mut Bench) -> Result<Thread, Mismatch> {
         let memory = Memory::random(&mut bench.random, lengths);
         let call = Call::on_bytes(Name::building(outputs), text.clone());
         let outcome = bench.compare(&call, memory)?;
+        check_gates(bench, &text, outputs, outcome.memory.answer)?;
         let graph = Graph::parse(&text).expect("an accepted graph");
         let net = outcome.memory.net.get().to_vec();
         return Ok(Thread::new(net, Some(Source { text, graph })));

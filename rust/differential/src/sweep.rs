@@ -1,8 +1,8 @@
 //! Every change of one byte or one number in a few small inputs, every short list of some
 //! lines as a graph, names of every width and short formulas over them, every count of
 //! outputs, packed files of every small kind, texts whose gates stand in every order, every pair
-//! of some numbers as a tally and every three of some, sessions of every small kind, and session
-//! pages of every small kind and of the largest.
+//! of some numbers as a tally and every three of some, sessions of every small kind, session
+//! pages of every small kind and of the largest, and every dearest graph.
 
 use crate::bench::Bench;
 use crate::checked;
@@ -13,6 +13,7 @@ use crate::pages::{compare_page_into, needed, MAX_CYCLES};
 use crate::rates;
 use crate::sessions::{compare_session, Measurement};
 use crate::shuffled;
+use crate::texts;
 use crate::traces::MAX_TRACE_BYTES;
 use crate::widths;
 use reference::Tally;
@@ -101,6 +102,7 @@ pub fn sweep(bench: &mut Bench) -> Result<usize, Mismatch> {
     }
     count += sweep_sessions(bench)?;
     count += sweep_pages(bench)?;
+    count += texts::sweep(bench)?;
     Ok(count)
 }
 

@@ -402,3 +402,14 @@ pub fn session_page(name: &[u8], verdicts: &[u8], page: &mut [u8]) -> Result<usi
     Refusal::check(raw::session_page(name, verdicts, page, &mut length))?;
     Ok(length as usize)
 }
+
+/// Writes the dearest graph of so many edges, 1 to 128, from which a gate array is sized: one
+/// vertex, and self-loops on it. Returns its length in bytes, 4 + 12 × edges.
+///
+/// `build` makes 10 × edges − 2 gates of it, and no more of any graph with as many edges whose
+/// formulas have no operator but `!`. Another number of edges is refused with 24, before 12.
+pub fn dearest_graph(edges: u64, text: &mut [u8]) -> Result<usize, Refusal> {
+    let mut length = 0;
+    Refusal::check(raw::dearest_graph(edges, text, &mut length))?;
+    Ok(length as usize)
+}

@@ -1,5 +1,5 @@
-//! Document 01, as Nos. 1, 2, 3, 5, 7 and 10 of document 02 change it, and Nos. 8, 9 and 12
-//! of document 02, once more in plain safe Rust, written from their sentences alone; and what
+//! Document 01, as Nos. 1, 2, 3, 5, 7 and 10 of document 02 change it, and Nos. 8, 9, 11 and
+//! 12 of document 02, once more in plain safe Rust, written from their sentences alone; and what
 //! the program `sheet` prints.
 //!
 //! Nothing here is proved and nothing is meant to be fast: each module follows
@@ -24,6 +24,7 @@ mod sheet;
 mod simulator;
 #[cfg(test)]
 mod testing;
+mod texts;
 mod trace;
 
 pub use aiger::{read, write, write_packed};
@@ -39,3 +40,4 @@ pub use rate::{per_million, Rate};
 pub use refusal::{Cause, Refusal};
 pub use sheet::sheet;
 pub use simulator::{run, start, step, Tally, Verdict, Words};
+pub use texts::dearest_graph;

@@ -27,6 +27,7 @@ pub enum Cause {
     NoRate = 21,
     NotPrintable = 22,
     WaitingGates = 23,
+    EdgesOutOfRange = 24,
     VerdictsWrong = 25,
     WidthOutOfRange = 26,
 }

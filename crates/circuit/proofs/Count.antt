@@ -280,7 +280,7 @@ pub bound : (g : Graph) → gateFormula g ≤ 10 * length (g .edges) + 3 * allOp
 unfolding gateFormula
 bound g = omega (arith, terminals-most g (g .edges), formulas-most (g .edges))
 
--- ---- no operators: two gates less, since the vertex to which an edge goes has an incoming edge
+-- ---- no operators: two gates less, since some vertex has an incoming edge and accept takes one gate less than it has terms
 entered-some : (k v t : ℕ) (e : Edge) (es : List Edge) → e .to ≡ t → v ≤ t → t < v + k → 1 ≤ entered v k (e ∷ es)
 entered-some zero v t e es q h l = absurd (omega arith)
 entered-some (suc k) v t e es q h l = elim (ℕ-discrete t v) [

@@ -9,14 +9,14 @@ use lib.Seq.{take-at}
 use Rattle.text.specs.Writer.{top, Wrote}
 use Rattle.text.proofs.WriterLaws.{fits}
 use Rattle.dearest_text.specs.Dearest.{dearestText}
-use Rattle.dearest_text.specs.Claims.{MostGates, Dearest}
-use Rattle.dearest_text.proofs.DearestLaws.{most-gates, dearest}
+use Rattle.dearest_text.specs.Claims.{Dearest}
+use Rattle.dearest_text.proofs.DearestLaws.{dearest}
 use Rattle.dearest_graph.specs.declared.Cause.{Cause}
 use Rattle.dearest_graph.specs.declared.Cause.the-variants.{EdgesOutside, ShortBuffer}
 use Rattle.dearest_graph.specs.declared.Written.{Written}
 use Rattle.dearest_graph.specs.declared.Written.the-variants.{Bytes, Refused}
 use Rattle.dearest_graph.specs.Write.{writeEnd, writeOf}
-use Rattle.dearest_graph.proofs.WriteLaws.{size, outside, too-short, written}
+use Rattle.dearest_graph.proofs.WriteLaws.{bytes-due, outside, too-short, written}
 
 module _ (edges : ℕ) (before : List ℕ) where
   abbrev graph : List ℕ
@@ -24,20 +24,17 @@ module _ (edges : ℕ) (before : List ℕ) where
 
   -- what write promises of an answer and what it leaves
   abbrev Ends : Written → List ℕ → Type 0
-  Ends r after = (writeEnd r after ≡ writeOf edges before) × (MostGates × ((n : ℕ) → r ≡ Bytes n → Dearest edges (take n after)))
+  Ends r after = (writeEnd r after ≡ writeOf edges before) × ((n : ℕ) → r ≡ Bytes n → Dearest edges (take n after))
 
   refused : (cause : Cause) → writeOf edges before ≡ writeEnd (Refused cause) before → Ends (Refused cause) before
-  refused cause is = (sym is, (most-gates, λ n e. let z : _≡_ {A = ℕ} 0 1 = cc in absurd (omega arith)))
+  refused cause is = (sym is, λ n e. let z : _≡_ {A = ℕ} 0 1 = cc in absurd (omega arith))
 
-  pub ends-few : edges < 1 → Ends (Refused EdgesOutside) before
-  ends-few h = refused EdgesOutside (outside edges before (λ a b. omega arith))
-
-  pub ends-many : 128 < edges → Ends (Refused EdgesOutside) before
-  ends-many h = refused EdgesOutside (outside edges before (λ a b. omega arith))
+  pub ends-outside : (1 ≤ edges → edges ≤ 128 → ⊥) → Ends (Refused EdgesOutside) before
+  ends-outside h = refused EdgesOutside (outside edges before h)
 
   module _ (some : 1 ≤ edges) (few : edges ≤ 128) where
     pub ends-short : length before < 4 + 12 * edges → Ends (Refused ShortBuffer) before
-    ends-short l = refused ShortBuffer (too-short edges before some few (omega (arith, size edges)))
+    ends-short l = refused ShortBuffer (too-short edges before some few (omega (arith, bytes-due edges)))
 
     -- what stands first in the buffer is the graph's text
     first : (n : ℕ) → Bytes (length graph) ≡ Bytes n → Dearest edges (take n (graph ++ drop (length graph) before))
@@ -47,7 +44,7 @@ module _ (edges : ℕ) (before : List ℕ) where
 
     pub ends-written : {end : ℕ} {after : List ℕ} → length before < top → 4 + 12 * edges ≤ length before → Wrote before after 0 end graph → Ends (Bytes end) after
     ends-written {end} {after} small l w =
-        let room : length graph ≤ length before = omega (arith, size edges) in
+        let room : length graph ≤ length before = omega (arith, bytes-due edges) in
         let e : end ≡ length graph = omega (arith, w .place, small) in
         let f : after ≡ graph ++ drop (length graph) before = rw zero-add at (fits w (rw zero-add room)) in
-        rw (e, f) (sym (written edges before some few room), (most-gates, first))
+        rw (e, f) (sym (written edges before some few room), first)

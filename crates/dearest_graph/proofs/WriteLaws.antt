@@ -6,17 +6,17 @@ use Prim.Native.Nat.{ℕ, _+_, _*_, _<_, _≤_}
 use native.Mathlib.Omega.{arith}
 use borrow.Author.Tests.{le-leb, lt-leb, leb-true}
 use lib.Dec.{leb}
-use lib.ListN.{length, drop, length-append}
-use Rattle.text.specs.Writer.{joined}
+use lib.ListN.{length, drop}
 use Rattle.dearest_text.specs.Dearest.{vertexLine, loopLine, dearestText}
-use Rattle.dearest_text.proofs.DearestLaws.{lines-length}
+use Rattle.dearest_text.proofs.DearestLaws.{size}
 use Rattle.dearest_graph.specs.declared.Cause.the-variants.{EdgesOutside, ShortBuffer}
 use Rattle.dearest_graph.specs.declared.Written.the-variants.{Bytes, Refused}
 use Rattle.dearest_graph.specs.Write.{isInside, writeEnd, writeOf}
 
-pub size : (edges : ℕ) → length (dearestText edges) ≡ 4 + 12 * edges
-unfolding dearestText vertexLine
-size edges = omega (arith, length-append vertexLine (joined (λ _. loopLine) edges), lines-length edges)
+-- as the code computes it
+pub bytes-due : (edges : ℕ) → length (dearestText edges) ≡ 4 + 12 * edges
+unfolding vertexLine loopLine
+bytes-due edges = omega (arith, size edges)
 
 module _ (edges : ℕ) (text : List ℕ) where
   not-inside : (1 ≤ edges → edges ≤ 128 → ⊥) → isInside edges ≡ false

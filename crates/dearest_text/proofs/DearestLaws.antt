@@ -2,15 +2,15 @@
 -- costs just that. Assumes nothing.
 use Prim.Native.Nat.{ℕ, zero, suc, _+_, _-_, _*_, _≤_}
 use mathlib.Core.Path.{_≡_, refl, ap, sym, subst, _∙_}
-use mathlib.Core.Bool.{false}
-use mathlib.Core.List.{List, [], _++_, map, append-assoc, append-nil}
+use mathlib.Core.Bool.{true, false}
+use mathlib.Core.List.{List, [], _∷_, _++_, map, append-assoc, append-nil}
 use native.Mathlib.Omega.{arith}
 use lib.Dec.{lit≤, lit<}
 use lib.ListN.{length, length-append, replicate, length-replicate}
 use Rattle.text.specs.Writer.{joined}
 use Rattle.formula.specs.Classes.{classOf, isLetter, isWordClass, strengthOf, startOf, nameBytes, isName}
 use Rattle.formula.specs.Grammar.{andThen, operandOf, expressionOf, restOf, whole, treeOf, depthOf}
-use Rattle.assertion.specs.Graph.{Bytes, Graph, bitsOf, signalBits, constantBits, isTerminal, operators}
+use Rattle.assertion.specs.Graph.{Bytes, Expr, Edge, Graph, bitsOf, signalBits, constantBits, isTerminal, operators}
 use Rattle.graph.specs.Pieces.{same, placeOf, lookUp}
 use Rattle.graph.specs.Reading.{known, fits, resolved, judgedTree, treeExpr, accepted, graphOf}
 use Rattle.graph_print.proofs.Print.{markOf, fieldsOf, lineOf, linesOf, modeRecords, edgeRecord, recordsOf, textOf}
@@ -25,18 +25,29 @@ use Rattle.builder.specs.declared.Built.the-variants.{Gates}
 use Rattle.builder.proofs.GraphLaws as read
 use Rattle.builder.proofs.DemandLaws.{build-means}
 use Rattle.dearest_text.specs.Dearest.{loop, dearestGraph, vertexLine, loopLine, dearestText}
-use Rattle.dearest_text.specs.Claims.{Operatorless, MostGates, Dearest}
+use Rattle.dearest_text.specs.Claims.{NoOperator, NoOperators, Operatorless, Dearest}
+use Rattle.dearest_text.specs.Claims.NoOperator.{is-truth, is-signal, is-constant, is-neg}
 
 -- ---- the bound
-formula-most : (edges : ℕ) (text : Bytes) (g : Graph) → Operatorless edges text g → gateFormula g ≤ 10 * edges - 2
+none-counted : (x : Expr) → NoOperator x → operators x ≡ 0
+unfolding operators
+none-counted x (is-truth b) = refl
+none-counted x (is-signal i) = refl
+none-counted x (is-constant j) = refl
+none-counted x (is-neg {x = y} h) = none-counted y h
+
+all-uncounted : (es : List Edge) → NoOperators es → allOperators es ≡ 0
+all-uncounted [] h = refl
+all-uncounted (e ∷ es) h = omega (arith, none-counted (e .antecedent) (h .0), none-counted (e .consequent) (h .1), all-uncounted es (h .2))
+
+-- of every accepted graph without operators
+pub formula-most : (edges : ℕ) (text : Bytes) (g : Graph) → Operatorless edges text g → gateFormula g ≤ 10 * edges - 2
 formula-most edges text g o =
-    subst (λ (e : ℕ). gateFormula g ≤ 10 * e - 2) (o .count) (count.most g (read.fits text (o .read)) (o .no-operator))
+    subst (λ (e : ℕ). gateFormula g ≤ 10 * e - 2) (o .count)
+    (count.most g (read.fits text (o .read)) (all-uncounted (g .edges) (o .no-operators)))
 
-pub most-gates : MostGates
-most-gates edges text g o = omega (arith, count.count g (read.fits text (o .read)), formula-most edges text g o)
-
-built-most : (edges : ℕ) (text : Bytes) (g : Graph) (net : List ℕ) (made : ℕ) → Operatorless edges text g → buildOf false text net .answer ≡ Gates made → made ≤ 10 * edges - 2
-built-most edges text g net made o b =
+most : (edges : ℕ) (text : Bytes) (g : Graph) (net : List ℕ) (made : ℕ) → Operatorless edges text g → buildOf false text net .answer ≡ Gates made → made ≤ 10 * edges - 2
+most edges text g net made o b =
     let d : Demand3 _ _ _ _ = build-means false text net .demand g made (o .read) b [] in
     omega (arith, d .formula, formula-most edges text g o)
 
@@ -55,14 +66,17 @@ text-is : (e : ℕ) → textOf (dearestGraph e) ≡ dearestText e
 unfolding textOf recordsOf modeRecords dearestText dearestGraph vertexLine linesOf lineOf fieldsOf
 text-is e = ap (λ (s : Bytes). vertexLine ++ s) (loop-lines e e)
 
-pub lines-length : (e : ℕ) → length (joined (λ _. loopLine) e) ≡ 12 * e
-unfolding loopLine
-lines-length zero = refl
-lines-length (suc e) = omega (arith, length-append (joined (λ _. loopLine) e) loopLine, lines-length e)
+pub size : (e : ℕ) → length (dearestText e) ≡ length vertexLine + length loopLine * e
+unfolding dearestText loopLine
+size e = omega (arith, length-append vertexLine (joined (λ _. loopLine) e), lines-length e)
+  where
+    lines-length : (n : ℕ) → length (joined (λ _. loopLine) n) ≡ 12 * n
+    lines-length zero = refl
+    lines-length (suc n) = omega (arith, length-append (joined (λ _. loopLine) n) loopLine, lines-length n)
 
 short : (e : ℕ) → e ≤ 128 → length (dearestText e) ≤ 32768
-unfolding dearestText vertexLine
-short e h = omega (arith, length-append vertexLine (joined (λ _. loopLine) e), lines-length e)
+unfolding vertexLine loopLine
+short e h = omega (arith, size e)
 
 -- ---- it is read as the graph
 loop-prints : (n : ℕ) → EdgePrints (dearestGraph n) loop
@@ -96,10 +110,14 @@ graph : (e : ℕ) → e ≤ 128 → graphOf (dearestText e) ≡ accepted (deares
 graph e h = ap graphOf (sym (text-is e)) ∙ printed (dearestGraph e) (printable e h)
 
 -- ---- what it costs
-loops-formulas : (e : ℕ) → (allFormulaGates (replicate e loop) ≡ 0) × (allOperators (replicate e loop) ≡ 0)
-unfolding formulaGates operators
-loops-formulas zero = (refl, refl)
-loops-formulas (suc e) = (omega (arith, loops-formulas e .0), omega (arith, loops-formulas e .1))
+loops-formulas : (e : ℕ) → allFormulaGates (replicate e loop) ≡ 0
+unfolding formulaGates
+loops-formulas zero = refl
+loops-formulas (suc e) = omega (arith, loops-formulas e)
+
+no-operators : (e : ℕ) → NoOperators (replicate e loop)
+no-operators zero = tt
+no-operators (suc e) = (is-truth true, is-truth true, no-operators e)
 
 loops-terminal : (e n : ℕ) → terminals (dearestGraph n) (replicate e loop) ≡ e
 unfolding isTerminal dearestGraph
@@ -112,7 +130,7 @@ loops-entered (suc e) = omega (arith, loops-entered e)
 
 cost : (e : ℕ) → gateFormula (dearestGraph e) ≡ 10 * e - 2
 unfolding dearestGraph gateFormula
-cost e = omega (arith, length-replicate e loop, loops-entered e, loops-terminal e e, loops-formulas e .0)
+cost e = omega (arith, length-replicate e loop, loops-entered e, loops-terminal e e, loops-formulas e)
 
 edges : (e : ℕ) → length (dearestGraph e .edges) ≡ e
 unfolding dearestGraph
@@ -125,7 +143,7 @@ no-bits e = (refl, refl)
 module _ (e : ℕ) (few : e ≤ 128) where
   operatorless : Operatorless e (dearestText e) (dearestGraph e)
   unfolding dearestGraph
-  operatorless = record { read = graph e few; count = edges e; no-operator = loops-formulas e .1 }
+  operatorless = record { read = graph e few; count = edges e; no-operators = no-operators e }
 
   built : (net : List ℕ) → 1 ≤ e → 24 * e + 2 ≤ length net → buildOf false (dearestText e) net .answer ≡ Gates (10 * e - 2)
   built net some h =
@@ -134,4 +152,4 @@ module _ (e : ℕ) (few : e ≤ 128) where
       (omega (arith, cost e, edges e, no-bits e .0, no-bits e .1)) (omega (arith, cost e, edges e, no-bits e .1)) ∙ ap Gates n
 
   pub dearest : 1 ≤ e → Dearest e (dearestText e)
-  dearest some = record { graph = operatorless; built = λ net h. built net some h; most = built-most e }
+  dearest some = record { graph = operatorless; built = λ net h. built net some h; most = most e }

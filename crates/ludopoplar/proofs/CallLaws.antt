@@ -13,7 +13,6 @@ use Rattle.builder.specs.declared.Cause as builder
 use Rattle.builder.specs.declared.Cause.the-variants.{TooManyVariables, ShortBuffer}
 use Rattle.builder.specs.declared.Built.{Built}
 use Rattle.builder.specs.declared.Built.the-variants.{Gates, Refused}
-use Rattle.builder.specs.Build as build
 use Rattle.builder.specs.Build.{variablesOf, BuildEnd, buildEnd, buildAs, buildOf}
 use Rattle.builder.specs.Claims.{BuildMeans}
 use Rattle.calls.specs.declared.tally.Tally.{Tally}
@@ -27,12 +26,6 @@ use Rattle.ludopoplar.specs.Circuits.{Filled, buildWith}
 use Rattle.ludopoplar.specs.Runs.{verdictNumber, startCode, stepCode, wordAfter, runCode, verdictAfter}
 use Rattle.ludopoplar.specs.CheckedRuns.{secondAfter}
 use Rattle.ludopoplar.specs.CallClaims.{CallBuilds, CallAnswers, CallStarts, CallSteps, CallRuns}
-use Rattle.ludopoplar.proofs.NumberLaws.{numbered}
-
--- ---- the code of a refusal is not 0
-pub build-refused : {A : Type 0} (cause : builder.Cause) (code : ℕ) → code ≡ codeOf (build.refusalOf cause) → code ≡ 0 → A
-unfolding codeOf
-build-refused cause code is z = absurd (omega (arith, numbered .build-numbered cause))
 
 -- ---- build: the text of an accepted build is a graph's
 module _ (checked : Bool) (text before after : List ℕ) (answer : Built) (made : ℕ) (e : buildEnd answer after ≡ buildOf checked text before) (gates : answer ≡ Gates made) (means : BuildMeans checked text before) where

@@ -5,5 +5,4 @@ mod SessionLaws
 mod PageLaws
 mod FileLaws
 mod CallLaws
-mod GraphLaws
 mod Examples

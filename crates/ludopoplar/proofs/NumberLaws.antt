@@ -1,6 +1,6 @@
 -- No refusal has the number 0, and a code tells number and line. Assumes nothing.
 use mathlib.Core.Path.{_≡_}
-use Prim.Native.Nat.{_≤_, _<_, _/_, _%_}
+use Prim.Native.Nat.{ℕ, _≤_, _<_, _/_, _%_}
 use native.Mathlib.Omega.{arith}
 use Rattle.text.specs.declared.Refusal.{Refusal}
 use Rattle.graph.specs.Reading as graph
@@ -128,3 +128,8 @@ numbered =
       number-told = number-back;
       line-told = line-back;
     }
+
+-- the code of a refusal is not 0
+pub not-accepted : {A : Type 0} (r : Refusal) (code : ℕ) → 1 ≤ r .number → code ≡ codeOf r → code ≡ 0 → A
+unfolding codeOf
+not-accepted r code h is z = absurd (omega (arith, h))

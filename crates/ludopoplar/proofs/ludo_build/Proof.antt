@@ -3,8 +3,8 @@
 use mathlib.Core.Path.{ap, _∙_}
 use Rattle.ludopoplar.specs.Codes.{codeOf}
 use Rattle.ludopoplar.specs.Circuits.{buildAs, buildWith, buildCall}
-use Rattle.ludopoplar.proofs.CallLaws.{build-refused, builds, answers}
-use Rattle.ludopoplar.proofs.NumberLaws.{numbered}
+use Rattle.ludopoplar.proofs.CallLaws.{builds, answers}
+use Rattle.ludopoplar.proofs.NumberLaws.{numbered, not-accepted}
 use Rattle.ludopoplar.proofs.ludo_build.Statement.{statement}
 use Rattle.ludopoplar.proofs.ludo_build.Tie as tie
 
@@ -48,7 +48,7 @@ returns-2 c =
     let called = told .before .before .before .before in (
       rw (← called .build .ensures .0, told .built2 .given .1, c .code .ensures, c .before .refusal .ensures),
       (
-        build-refused _ _ (c .code .ensures ∙ ap codeOf (c .before .refusal .ensures)),
+        not-accepted _ _ (numbered .build-numbered _) (c .code .ensures ∙ ap codeOf (c .before .refusal .ensures)),
         (answers _ _ _ _ _ (rw (← called .build .ensures .0, told .built2 .given .1, c .code .ensures, c .before .refusal .ensures)), numbered),
       ),
     )

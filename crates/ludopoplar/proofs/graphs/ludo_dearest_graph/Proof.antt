@@ -3,7 +3,7 @@
 use mathlib.Core.Path.{ap, _∙_}
 use Rattle.ludopoplar.specs.Codes.{codeOf}
 use Rattle.ludopoplar.specs.Graphs.{dearestAs, dearestGraphCall}
-use Rattle.ludopoplar.proofs.GraphLaws.{dearest-refused}
+use Rattle.ludopoplar.proofs.NumberLaws.{numbered, not-accepted}
 use Rattle.ludopoplar.proofs.graphs.ludo_dearest_graph.Statement.{statement}
 use Rattle.ludopoplar.proofs.graphs.ludo_dearest_graph.Tie as tie
 
@@ -30,7 +30,7 @@ unfolding dearestGraphCall dearestAs
 returns c =
     let told = c .before in
     let called = told .before .before .before .before in
-    (rw (← called .write .ensures .0, told .written .given .1), λ _. called .write .ensures .1 .1 _ (told .written .given .1))
+    (rw (← called .write .ensures .0, told .written .given .1), λ _. called .write .ensures .1 _ (told .written .given .1))
 
 same-length-2 : tie.Need-same-length-2
 same-length-2 c = c .before .before .before .before .before .before .before .write .kept .1 .0
@@ -41,7 +41,7 @@ returns-2 c =
     let told = c .before .before .before in
     let called = told .before .before .before .before in (
       rw (← called .write .ensures .0, told .written2 .given .1, c .code .ensures, c .before .refusal .ensures),
-      dearest-refused _ _ (c .code .ensures ∙ ap codeOf (c .before .refusal .ensures)),
+      not-accepted _ _ (numbered .dearest-numbered _) (c .code .ensures ∙ ap codeOf (c .before .refusal .ensures)),
     )
 
 pub ludo-dearest-graph-spec : {M : Type 1} → statement M

@@ -46,11 +46,6 @@ formula-most edges text g o =
     subst (λ (e : ℕ). gateFormula g ≤ 10 * e - 2) (o .count)
     (count.most g (read.fits text (o .read)) (all-uncounted (g .edges) (o .no-operators)))
 
-most : (edges : ℕ) (text : Bytes) (g : Graph) (net : List ℕ) (made : ℕ) → Operatorless edges text g → buildOf false text net .answer ≡ Gates made → made ≤ 10 * edges - 2
-most edges text g net made o b =
-    let d : Demand3 _ _ _ _ = build-means false text net .demand g made (o .read) b [] in
-    omega (arith, d .formula, formula-most edges text g o)
-
 -- ---- the text
 -- lines that are all the same, the first or the last taken off
 same-lines : (e : ℕ) → loopLine ++ joined (λ _. loopLine) e ≡ joined (λ _. loopLine) e ++ loopLine
@@ -152,4 +147,11 @@ module _ (e : ℕ) (few : e ≤ 128) where
       (omega (arith, cost e, edges e, no-bits e .0, no-bits e .1)) (omega (arith, cost e, edges e, no-bits e .1)) ∙ ap Gates n
 
   pub dearest : 1 ≤ e → Dearest e (dearestText e)
-  dearest some = record { graph = operatorless; built = λ net h. built net some h; most = most e }
+  dearest some =
+      record {
+        graph = operatorless;
+        built = λ net h. built net some h;
+        most = λ other g net made o b.
+            let d : Demand3 _ _ _ _ = build-means false other net .demand g made (o .read) b [] in
+            omega (arith, d .formula, formula-most e other g o);
+      }

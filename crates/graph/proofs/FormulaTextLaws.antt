@@ -76,7 +76,7 @@ module _ (ss cs : List Name) where
     known-all (join b e f) h = let k = pick-both (known ns s e) (known ns s f) h in (known-all e (k .0), known-all f (k .1))
 
 -- a vertex of a list is found in it
-place-inside : (n : Bytes) (vs : List Bytes) → List·Memᴰ n vs → placeOf n vs < length vs
+pub place-inside : (n : Bytes) (vs : List Bytes) → List·Memᴰ n vs → placeOf n vs < length vs
 unfolding placeOf
 place-inside n (v ∷ vs) (List·Memᴰ·head e) = rw (← e, same-self n, placeOf) (omega arith)
 place-inside n (v ∷ vs) (List·Memᴰ·tail m) = by (same n v) (place-inside n vs m)
@@ -86,7 +86,7 @@ place-inside n (v ∷ vs) (List·Memᴰ·tail m) = by (same n v) (place-inside n
     by false h = omega arith
 
 -- with its bytes
-place-finds : (n : Bytes) (vs : List Bytes) → List·Memᴰ n vs → getD vs (placeOf n vs) [] ≡ n
+pub place-finds : (n : Bytes) (vs : List Bytes) → List·Memᴰ n vs → getD vs (placeOf n vs) [] ≡ n
 unfolding placeOf
 place-finds n (v ∷ vs) (List·Memᴰ·head e) = rw (← e, same-self n, placeOf)
 place-finds n (v ∷ vs) (List·Memᴰ·tail m) = by (same n v) refl (place-finds n vs m)
@@ -95,7 +95,7 @@ place-finds n (v ∷ vs) (List·Memᴰ·tail m) = by (same n v) refl (place-find
     by true e h = sym (same-equal n v e)
     by false e h = h
 
-vertex-known : {n : Bytes} {vs : List Bytes} → List·Memᴰ n vs → lookUp n vs .known ≡ true
+pub vertex-known : {n : Bytes} {vs : List Bytes} → List·Memᴰ n vs → lookUp n vs .known ≡ true
 unfolding lookUp
 vertex-known {n} {vs} m = lt-ltb (placeOf n vs) (length vs) (place-inside n vs m)
 
@@ -207,17 +207,17 @@ module _ (from to : Bytes) (b : Bool) (a c : Bytes) (hf : isName from ≡ true) 
   formula-fields : split 9 (a ++ (9 ∷ c)) ≡ a ∷ c ∷ []
   formula-fields = rw (split-joined 9 a c, split-whole 9 a (ha .no-tab), split-whole 9 c (hc .no-tab))
 
-  edge-record : recordOf (lineWith from to b (a ++ (9 ∷ c))) ≡ edge from to b a c
+  pub edge-record : recordOf (lineWith from to b (a ++ (9 ∷ c))) ≡ edge from to b a c
   unfolding ofFields edged same
   edge-record = rw (line-fields from to b (a ++ (9 ∷ c)) (name-field from hf) (name-field to ht), formula-fields, ofFields, hf, ht) (edge-marked from to b a c)
 
   -- it is one line
-  edge-whole : split 10 (lineWith from to b (a ++ (9 ∷ c))) ≡ lineWith from to b (a ++ (9 ∷ c)) ∷ []
+  pub edge-whole : split 10 (lineWith from to b (a ++ (9 ∷ c))) ≡ lineWith from to b (a ++ (9 ∷ c)) ∷ []
   edge-whole =
       edge-lines from to b (a ++ (9 ∷ c)) (name-field from hf) (name-field to ht) (split-more a (9 ∷ c) (ha .no-lf) (one-byte-lines 9 c refl (split-whole 10 c (hc .no-lf))))
 
 -- between vertices that are known, and with room, an edge is judged by its formulas
-edge-judged : (g : Graph) (from to : Bytes) (b : Bool) (a c : Bytes) → length (g .edges) < 128 → List·Memᴰ from (g .vertices) → List·Memᴰ to (g .vertices) → add g (edge from to b a c) ≡ unlessFaulty (lower (judgedFormula (namesOf g) a) (judgedFormula (namesOf g) c)) g (edgeOf g (lookUp from (g .vertices) .place) (lookUp to (g .vertices) .place) b a c)
+pub edge-judged : (g : Graph) (from to : Bytes) (b : Bool) (a c : Bytes) → length (g .edges) < 128 → List·Memᴰ from (g .vertices) → List·Memᴰ to (g .vertices) → add g (edge from to b a c) ≡ unlessFaulty (lower (judgedFormula (namesOf g) a) (judgedFormula (namesOf g) c)) g (edgeOf g (lookUp from (g .vertices) .place) (lookUp to (g .vertices) .place) b a c)
 unfolding add addEdge judgeEdge
 edge-judged g from to b a c room hf ht = rw (lt-leb 128 (length (g .edges)) room, vertex-known hf, vertex-known ht)
 

@@ -1,4 +1,5 @@
--- The laws that belong to no one function. Crates above cite HeldLaws and AnswerLaws.
+-- The laws that belong to no one function. Crates above cite those of an accepted text (AnswerLaws, HeldLaws, BitLaws,
+-- WordLaws) and, to prove that a text is accepted, those of its fields, names and lines.
 pub mod PieceLaws
 pub mod SplitLaws
 pub mod BreakLaws

@@ -47,7 +47,7 @@ name-without c n (b ∷ x) h = by (inName b) refl h (name-without c n x)
     by true e k ih = one-without (λ q. let z : _≡_ {A = ℕ} 0 1 = cc in omega arith) (ih k)
     by false e k ih = let z : _≡_ {A = ℕ} 0 1 = cc in absurd (omega arith)
 
-digits-without : (c : ℕ) → isDigit c ≡ false → (x : Bytes) → EachDigit x → Without c x
+pub digits-without : (c : ℕ) → isDigit c ≡ false → (x : Bytes) → EachDigit x → Without c x
 unfolding EachDigit
 digits-without c n [] h = none-empty c
 digits-without c n (b ∷ x) h = let d = h .0 in one-without (λ q. let z : _≡_ {A = ℕ} 0 1 = cc in omega arith) (digits-without c n x (h .1))
@@ -65,7 +65,7 @@ field-plain (given w i) = one-without (λ e. omega arith) (digits-without 10 ref
 
 -- ---- the record of the line
 module _ (kind : ℕ) (late : 69 < kind) (name : Bytes) (is-name : isName name ≡ true) where
-  line-plain : {field : Bytes} {w : ℕ} → WidthField field w → Without 10 (kind ∷ 9 ∷ (name ++ field))
+  pub line-plain : {field : Bytes} {w : ℕ} → WidthField field w → Without 10 (kind ∷ 9 ∷ (name ++ field))
   line-plain f = one-without (λ e. omega (arith, late)) (one-without (λ e. omega arith) (joined-without name (name-field name is-name .no-lf) (field-plain f)))
 
   -- two fields
@@ -87,17 +87,17 @@ not-zero absent e = omega arith
 not-zero (given w i) e = omega (arith, i .some)
 
 module _ (name : Bytes) (is-name : isName name ≡ true) {field : Bytes} {w : ℕ} (width : WidthField field w) where
-  signal-line : recordOf (83 ∷ 9 ∷ (name ++ field)) ≡ signal name w
+  pub signal-line : recordOf (83 ∷ 9 ∷ (name ++ field)) ≡ signal name w
   unfolding named sized same
   signal-line = line-sized 83 (omega arith) name is-name refl width ∙ rw (is-name, ne-eqb w 0 (not-zero width))
 
-  constant-line : recordOf (75 ∷ 9 ∷ (name ++ field)) ≡ constant name w
+  pub constant-line : recordOf (75 ∷ 9 ∷ (name ++ field)) ≡ constant name w
   unfolding named sized same
   constant-line = line-sized 75 (omega arith) name is-name refl width ∙ rw (is-name, ne-eqb w 0 (not-zero width))
 
 -- ---- a name that has come, or not
 module _ (n : Bytes) where
-  new-unknown : (p : ℕ) (xs : List Name) → ((x : Name) → List·Memᴰ x xs → x .name ≡ n → ⊥) → lookUpName n (placed p xs) .known ≡ false
+  pub new-unknown : (p : ℕ) (xs : List Name) → ((x : Name) → List·Memᴰ x xs → x .name ≡ n → ⊥) → lookUpName n (placed p xs) .known ≡ false
   unfolding lookUpName placed
   new-unknown p [] h = refl
   new-unknown p (x ∷ xs) h = by (same n (x .name)) refl (new-unknown (p + x .width) xs (λ y m. h y (List·Memᴰ·tail m)))

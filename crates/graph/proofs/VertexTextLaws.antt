@@ -35,11 +35,11 @@ unfolding lookUp
 vertex-unknown n vs h = le-ltb (placeOf n vs) (length vs) (place-past n vs h)
 
 -- the line of a vertex, and its step
-vertex-line : (name : Bytes) → isName name ≡ true → recordOf (86 ∷ 9 ∷ name) ≡ vertex name
+pub vertex-line : (name : Bytes) → isName name ≡ true → recordOf (86 ∷ 9 ∷ name) ≡ vertex name
 unfolding named same
 vertex-line name h = line-named 86 (omega arith) name h ∙ rw h
 
-vertex-added : (g : Graph) (name : Bytes) → g .edges ≡ [] → length (g .vertices) < 64 → (List·Memᴰ name (g .vertices) → ⊥) → add g (vertex name) ≡ went (plusVertex g name)
+pub vertex-added : (g : Graph) (name : Bytes) → g .edges ≡ [] → length (g .vertices) < 64 → (List·Memᴰ name (g .vertices) → ⊥) → add g (vertex name) ≡ went (plusVertex g name)
 unfolding add addVertex
 vertex-added g name none room new = rw (none, lt-leb 64 (length (g .vertices)) room, vertex-unknown name (g .vertices) new)
 

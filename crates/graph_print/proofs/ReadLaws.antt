@@ -1,18 +1,20 @@
 -- Records that are taken one after another, as a text. Assumes nothing.
-use Prim.Native.Nat.{ℕ, _+_, _*_, _<_, _≤_}
-use mathlib.Core.Path.{_≡_, refl, sym, ap, _∙_}
-use mathlib.Core.Bool.{Bool, true, false}
-use mathlib.Core.List.{List, [], _∷_, _++_, append-assoc}
+use Prim.Native.Nat.{ℕ, _+_, _≤_}
+use mathlib.Core.Path.{_≡_, refl, ap, _∙_}
+use mathlib.Core.List.{List, [], _∷_, _++_}
 use native.Mathlib.Omega.{arith}
-use borrow.Author.Tests.{le-ltb, ne-eqb}
-use lib.ListN.{length, length-append}
+use borrow.Author.Tests.{ne-eqb}
+use lib.ListN.{length}
 use Rattle.assertion.specs.Graph.{Bytes, Graph}
 use Rattle.graph.specs.Pieces.{split}
-use Rattle.graph.specs.Records.{Record, edge}
+use Rattle.graph.specs.Records.{Record}
 use Rattle.graph.specs.Reading.{went, add, accepted, finished, readLines, nothing, graphOf}
-use Rattle.graph_print.proofs.Print.{markOf, fieldsOf, lineOf, linesOf}
-use Rattle.graph_print.proofs.SplitLaws.{split-line}
-use Rattle.graph_print.proofs.RecordLaws.{Good, line-no-lf, record-back}
+use Rattle.graph.proofs.PieceLaws.{split-some}
+use Rattle.graph.proofs.SplitLaws.{split-joined}
+use Rattle.graph.proofs.TextLaws.{read-next}
+use Rattle.graph.proofs.ModeTextLaws.{short-lines}
+use Rattle.graph_print.proofs.Print.{fieldsOf, lineOf, linesOf}
+use Rattle.graph_print.proofs.RecordLaws.{Good, record-line}
 
 abbrev pub AllGood : List Record → Type 0
 AllGood [] = Unit {0}
@@ -32,29 +34,17 @@ takes-append none t = t
 takes-append (more e s) t = more e (takes-append s t)
 
 -- ---- lines
--- after the last LF stands the empty piece
-abbrev pieces : List Record → List Bytes
-pieces [] = [] ∷ []
-pieces (r ∷ rs) = lineOf (fieldsOf r) ∷ pieces rs
-
-lines-back : (rs : List Record) → AllGood rs → split 10 (linesOf rs) ≡ pieces rs
-unfolding linesOf split
-lines-back [] h = refl
-lines-back (r ∷ rs) h = split-line 10 (lineOf (fieldsOf r)) (linesOf rs) (line-no-lf r (h .0)) ∙ ap (_∷_ (lineOf (fieldsOf r))) (lines-back rs (h .1))
-
-one-line : (g g₂ : Graph) (n : ℕ) (r : Record) (rs : List Record) → Good r → add g r ≡ went g₂ → readLines g n (lineOf (fieldsOf r) ∷ pieces rs) ≡ readLines g₂ (n + 1) (pieces rs)
-unfolding readLines
-one-line g g₂ n r [] h e = rw (readLines, record-back r h, e)
-one-line g g₂ n r (s ∷ rs) h e = rw (readLines, record-back r h, e)
-
-takes-read : {g k : Graph} {rs : List Record} → Takes g rs k → AllGood rs → (n : ℕ) → readLines g n (pieces rs) ≡ finished k
-unfolding readLines
+takes-read : {g k : Graph} {rs : List Record} → Takes g rs k → AllGood rs → (n : ℕ) → readLines g n (split 10 (linesOf rs)) ≡ finished k
+unfolding readLines split linesOf
 takes-read none h n = refl
-takes-read {g} (more {g₂ = g₂} {r = r} {rs = rs} e t) h n = one-line g g₂ n r rs (h .0) e ∙ takes-read t (h .1) (n + 1)
+takes-read {g} (more {r = r} {rs = rs} e t) h n =
+    let l = record-line r (h .0) in
+    ap (readLines g n) (split-joined 10 (lineOf (fieldsOf r)) (linesOf rs) ∙ ap (λ (ls : List Bytes). ls ++ split 10 (linesOf rs)) (l .one-line))
+    ∙ read-next g n (lineOf (fieldsOf r)) (split 10 (linesOf rs)) (split-some 10 (linesOf rs)) (ap (add g) (l .read) ∙ e)
+    ∙ takes-read t (h .1) (n + 1)
 
 -- ---- THE LAW OF RECORDS: lines of good records that are taken, with a vertex and within the limit of bytes, are the
 -- text of what they make
 pub records-read : {g : Graph} (rs : List Record) → AllGood rs → Takes nothing rs g → 1 ≤ length (g .vertices) → length (linesOf rs) ≤ 32768 → graphOf (linesOf rs) ≡ accepted g
-unfolding graphOf finished
-records-read {g} rs h t v l =
-    rw (le-ltb 32768 (length (linesOf rs)) l, lines-back rs h, takes-read t h 1, ne-eqb (length (g .vertices)) 0 (λ e. omega arith))
+unfolding finished
+records-read {g} rs h t v l = rw (short-lines (linesOf rs) l, takes-read t h 1, ne-eqb (length (g .vertices)) 0 (λ e. omega arith))

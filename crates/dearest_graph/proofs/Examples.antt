@@ -1,15 +1,37 @@
--- The request's cases, worked: answers and buffers. Assumes nothing.
-use Prim.Native.Nat.{ℕ}
-use mathlib.Core.Path.{_≡_, refl}
+-- What write answers and leaves, in digits: for every input, and in the request's cases. Assumes nothing.
+use Prim.Native.Nat.{ℕ, _+_, _*_, _<_, _≤_}
+use mathlib.Core.Path.{_≡_, refl, subst}
 use mathlib.Core.List.{List, [], _∷_, _++_, map}
-use lib.ListN.{replicate}
+use native.Mathlib.Omega.{arith}
+use lib.ListN.{length, drop, replicate}
 use Rattle.text.specs.Quoted.{bytes}
-use Rattle.text.specs.declared.Refusal.{Refusal}
 use Rattle.dearest_text.specs.Dearest.{vertexLine, loopLine, dearestText}
+use Rattle.dearest_graph.specs.declared.Cause.the-variants.{EdgesOutside, ShortBuffer}
 use Rattle.dearest_graph.specs.declared.Written.{Written}
 use Rattle.dearest_graph.specs.declared.Written.the-variants.{Bytes, Refused}
-use Rattle.dearest_graph.specs.Write.{refusalOf, isInside, WriteEnd, writeOf}
+use Rattle.dearest_graph.specs.Write.{refusalOf, isInside, writeOf}
+use Rattle.dearest_graph.proofs.WriteLaws as write
+use Rattle.dearest_graph.proofs.WriteLaws.{bytes-due}
 
+-- ---- every input
+numbers : (refusalOf EdgesOutside ≡ record { number = 24; line = 0 }) × (refusalOf ShortBuffer ≡ record { number = 12; line = 0 })
+unfolding refusalOf
+numbers = (refl, refl)
+
+module _ (edges : ℕ) (text : List ℕ) where
+  outside : (1 ≤ edges → edges ≤ 128 → ⊥) → writeOf edges text ≡ record { answer = Refused EdgesOutside; text = text }
+  outside h = write.outside edges text h
+
+  module _ (some : 1 ≤ edges) (few : edges ≤ 128) where
+    short : length text < 4 + 12 * edges → writeOf edges text ≡ record { answer = Refused ShortBuffer; text = text }
+    short l = write.too-short edges text some few (omega (arith, bytes-due edges))
+
+    written : 4 + 12 * edges ≤ length text → writeOf edges text ≡ record { answer = Bytes (4 + 12 * edges); text = dearestText edges ++ drop (4 + 12 * edges) text }
+    written l =
+        subst (λ (n : ℕ). writeOf edges text ≡ record { answer = Bytes n; text = dearestText edges ++ drop n text }) (bytes-due edges)
+        (write.written edges text some few (omega (arith, bytes-due edges)))
+
+-- ---- the request's cases
 -- the number and line of a refusal, or 0 and how many bytes the text has
 abbrev told : Written → List ℕ
 told (Bytes n) = 0 ∷ n ∷ []
@@ -33,15 +55,11 @@ unfolding dearestText vertexLine loopLine refusalOf isInside writeOf
 rooms = refl
 
 -- 24, whatever the buffer
-outside : answers (of 0 0 ∷ of 0 4 ∷ of 129 0 ∷ of 129 1552 ∷ []) ≡ replicate 4 (24 ∷ 0 ∷ [])
+none-or-many : answers (of 0 0 ∷ of 0 4 ∷ of 129 0 ∷ of 129 1552 ∷ []) ≡ replicate 4 (24 ∷ 0 ∷ [])
 unfolding dearestText vertexLine loopLine refusalOf isInside writeOf
-outside = refl
+none-or-many = refl
 
--- a refusal leaves the buffer as it was, and a longer buffer keeps its surplus
-abbrev left : ℕ → ℕ → List ℕ
-left edges room = writeOf edges (replicate room 7) .text
-
-buffers : (left 0 16 ≡ replicate 16 7) × (left 129 3 ≡ replicate 3 7) × (left 1 15 ≡ replicate 15 7)
-    × (left 1 18 ≡ bytes "V\ta\nE\ta\ta\tt\t1\t1\n" ++ (7 ∷ 7 ∷ []))
+-- a longer buffer keeps its surplus
+surplus : writeOf 1 (replicate 18 7) .text ≡ bytes "V\ta\nE\ta\ta\tt\t1\t1\n" ++ (7 ∷ 7 ∷ [])
 unfolding dearestText vertexLine loopLine isInside writeOf
-buffers = (refl, refl, refl, refl)
+surplus = refl

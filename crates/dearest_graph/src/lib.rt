@@ -1,6 +1,7 @@
 // The dearest graph, written into a lent buffer, for sizing a gate array from the number of edges. Which graph it is and
-// what it costs stands in dearest_text. Exports that what is written is accepted as that graph and costs 10E − 2 gates, and
-// that no graph of as many edges and no operators costs more: the clause `dearest` of `write`.
+// what it costs stands in dearest_text; this crate knows nothing of how a text is read or built. Exports that what is
+// written is accepted as that graph and costs 10E − 2 gates, and that no graph of as many edges and no operators costs
+// more: the clause `dearest` of `write`.
 use text::Refusal;
 use text::put_bytes;
 ghost use mathlib.Core.Path.{_≡_};

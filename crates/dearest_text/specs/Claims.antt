@@ -10,8 +10,8 @@ use Rattle.builder.specs.Build.{buildOf}
 use Rattle.builder.specs.declared.Built.the-variants.{Gates}
 use Rattle.dearest_text.specs.Dearest.{dearestGraph}
 
--- a formula without operators, so with none of `& ^ | =` and no `==`: a constant 0 or 1, a bit of a name, or `!` of such a
--- formula. Brackets leave no trace in a formula's tree
+-- a formula without operators, so with none of `& ^ | =` and no `==`: `0` or `1`, a bit of a signal or of a constant, or `!` of
+-- such a formula. Brackets leave no trace in an `Expr`
 pub data NoOperator : Expr → Type 0 where
   is-truth : (b : Bool) → NoOperator (truth b)
   is-signal : (i : ℕ) → NoOperator (signal i)

@@ -4,7 +4,7 @@ use mathlib.Core.List.{List}
 use Prim.Native.Nat.{ℕ}
 use Rattle.dearest_graph.specs.declared.Written.{Written}
 use Rattle.dearest_graph.specs.declared.Written.the-variants.{Bytes, Refused}
-use Rattle.dearest_graph.specs.Write.{refusalOf, WriteEnd, writeOf}
+use Rattle.dearest_graph.specs.Write.{refusalOf, writeOf}
 use Rattle.ludopoplar.specs.Codes.{acceptedCode, codeOf}
 use Rattle.ludopoplar.specs.Circuits.{Filled, filled}
 

@@ -12,8 +12,8 @@
 // clauses `writes` of `ludo_write` and `ludo_write_packed` and `reads` of `ludo_read`; of start, step and run what an
 // accepted call leaves and what a refused one does, the clauses `starts` of `ludo_start` and `ludo_start_checked`,
 // `steps` of `ludo_step` and `ludo_step_checked`, `runs` of `ludo_run` and `ludo_run_checked`; of the dearest graph what
-// it costs, and that no other costs more, the clause `dearest` of `ludo_dearest_graph`. `include/ludopoplar.h` declares
-// these functions to C.
+// it costs, and that no graph of as many edges without operators costs more, the clause `dearest` of
+// `ludo_dearest_graph`. `include/ludopoplar.h` declares these functions to C.
 mod checked;
 mod graphs;
 

@@ -1,6 +1,7 @@
--- The monitor has as many gates as document 01's formula says, and at most 10 for an edge and 3 for an operator. Assumes nothing.
+-- The monitor has as many gates as document 01's formula says: at most 10 for an edge and 3 for an operator, and without
+-- operators two fewer. Assumes nothing.
 use Prim.Native.Nat.{ℕ, zero, suc, _+_, _-_, _*_, _<_, _≤_, min}
-use mathlib.Core.Path.{_≡_, refl, ap, _∙_}
+use mathlib.Core.Path.{_≡_, refl, ap}
 use mathlib.Core.Bool.{Bool, true, false, cond}
 use mathlib.Core.List.{List, [], _∷_, _++_}
 use native.Mathlib.Omega.{arith}
@@ -281,11 +282,11 @@ unfolding gateFormula
 bound g = omega (arith, terminals-most g (g .edges), formulas-most (g .edges))
 
 -- ---- no operators: two gates less, since some vertex has an incoming edge and accept takes one gate less than it has terms
-entered-some : (k v t : ℕ) (e : Edge) (es : List Edge) → e .to ≡ t → v ≤ t → t < v + k → 1 ≤ entered v k (e ∷ es)
-entered-some zero v t e es q h l = absurd (omega arith)
-entered-some (suc k) v t e es q h l = elim (ℕ-discrete t v) [
-  | yes d ↦ let i : _≡_ {A = ℕ} (cond (eqb (e .to) v) 1 0) 1 = rw (eq-eqb (e .to) v (q ∙ d)) in omega (arith, i)
-  | no d ↦ omega (arith, entered-some k (suc v) t e es q (omega (arith, d)) (omega arith))
+entered-some : (k v : ℕ) (e : Edge) (es : List Edge) → v ≤ e .to → e .to < v + k → 1 ≤ entered v k (e ∷ es)
+entered-some zero v e es h l = absurd (omega arith)
+entered-some (suc k) v e es h l = elim (ℕ-discrete (e .to) v) [
+  | yes d ↦ let i : _≡_ {A = ℕ} (cond (eqb (e .to) v) 1 0) 1 = rw (eq-eqb (e .to) v d) in omega (arith, i)
+  | no d ↦ omega (arith, entered-some k (suc v) e es (omega (arith, d)) (omega arith))
 ]
 
 pub most : (g : Graph) → Fits g → allOperators (g .edges) ≡ 0 → gateFormula g ≤ 10 * length (g .edges) - 2
@@ -294,4 +295,4 @@ most g fits none = omega (arith, terminals-most g (g .edges), formulas-most (g .
   where
     some : (s k : ℕ) (es : List Edge) → AllFit s k (length (g .vertices)) es → min 1 (length es) ≤ entered 0 (length (g .vertices)) es
     some s k [] f = omega arith
-    some s k (e ∷ es) f = omega (arith, entered-some (length (g .vertices)) 0 (e .to) e es refl (omega arith) (omega (arith, f .0 .to)))
+    some s k (e ∷ es) f = omega (arith, entered-some (length (g .vertices)) 0 e es (omega arith) (omega (arith, f .0 .to)))

@@ -1,5 +1,5 @@
 -- What write answers and leaves at each of its ends, and that it is what its contract claims. Assumes nothing.
-use mathlib.Core.Path.{_≡_, sym, subst}
+use mathlib.Core.Path.{_≡_, sym, subst, _∙_}
 use mathlib.Core.List.{List, _++_}
 use Prim.Native.Nat.{ℕ, _+_, _*_, _<_, _≤_}
 use native.Mathlib.Nat.{zero-add}
@@ -34,17 +34,16 @@ module _ (edges : ℕ) (before : List ℕ) where
 
   module _ (some : 1 ≤ edges) (few : edges ≤ 128) where
     pub ends-short : length before < 4 + 12 * edges → Ends (Refused ShortBuffer) before
-    ends-short l = refused ShortBuffer (too-short edges before some few (omega (arith, bytes-due edges)))
+    ends-short l = refused ShortBuffer (too-short edges before some few l)
 
     -- what stands first in the buffer is the graph's text
-    first : (n : ℕ) → Bytes (length graph) ≡ Bytes n → Dearest edges (take n (graph ++ drop (length graph) before))
+    first : (n : ℕ) → Bytes (4 + 12 * edges) ≡ Bytes n → Dearest edges (take n (graph ++ drop (4 + 12 * edges) before))
     first n e =
-        let l : length graph ≡ n = cc in
-        subst (Dearest edges) (sym (take-at graph (drop (length graph) before) n l)) (dearest edges few some)
+        let l : 4 + 12 * edges ≡ n = cc in
+        subst (Dearest edges) (sym (take-at graph (drop (4 + 12 * edges) before) n (bytes-due edges ∙ l))) (dearest edges few some)
 
     pub ends-written : {end : ℕ} {after : List ℕ} → length before < top → 4 + 12 * edges ≤ length before → Wrote before after 0 end graph → Ends (Bytes end) after
     ends-written {end} {after} small l w =
-        let room : length graph ≤ length before = omega (arith, bytes-due edges) in
-        let e : end ≡ length graph = omega (arith, w .place, small) in
-        let f : after ≡ graph ++ drop (length graph) before = rw zero-add at (fits w (rw zero-add room)) in
-        rw (e, f) (sym (written edges before some few room), first)
+        let e : end ≡ 4 + 12 * edges = omega (arith, w .place, small, bytes-due edges) in
+        let f : after ≡ graph ++ drop (4 + 12 * edges) before = rw (zero-add, bytes-due edges) at (fits w (omega (arith, bytes-due edges))) in
+        rw (e, f) (sym (written edges before some few l), first)

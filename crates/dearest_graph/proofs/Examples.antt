@@ -1,8 +1,7 @@
 -- What write answers and leaves, in digits: for every input, and in the request's cases. Assumes nothing.
 use Prim.Native.Nat.{ℕ, _+_, _*_, _<_, _≤_}
-use mathlib.Core.Path.{_≡_, refl, subst}
+use mathlib.Core.Path.{_≡_, refl}
 use mathlib.Core.List.{List, [], _∷_, _++_, map}
-use native.Mathlib.Omega.{arith}
 use lib.ListN.{length, drop, replicate}
 use Rattle.text.specs.Quoted.{bytes}
 use Rattle.dearest_text.specs.Dearest.{vertexLine, loopLine, dearestText}
@@ -11,7 +10,6 @@ use Rattle.dearest_graph.specs.declared.Written.{Written}
 use Rattle.dearest_graph.specs.declared.Written.the-variants.{Bytes, Refused}
 use Rattle.dearest_graph.specs.Write.{refusalOf, isInside, writeOf}
 use Rattle.dearest_graph.proofs.WriteLaws as write
-use Rattle.dearest_graph.proofs.WriteLaws.{bytes-due}
 
 -- ---- every input
 numbers : (refusalOf EdgesOutside ≡ record { number = 24; line = 0 }) × (refusalOf ShortBuffer ≡ record { number = 12; line = 0 })
@@ -20,16 +18,14 @@ numbers = (refl, refl)
 
 module _ (edges : ℕ) (text : List ℕ) where
   outside : (1 ≤ edges → edges ≤ 128 → ⊥) → writeOf edges text ≡ record { answer = Refused EdgesOutside; text = text }
-  outside h = write.outside edges text h
+  outside = write.outside edges text
 
   module _ (some : 1 ≤ edges) (few : edges ≤ 128) where
     short : length text < 4 + 12 * edges → writeOf edges text ≡ record { answer = Refused ShortBuffer; text = text }
-    short l = write.too-short edges text some few (omega (arith, bytes-due edges))
+    short = write.too-short edges text some few
 
     written : 4 + 12 * edges ≤ length text → writeOf edges text ≡ record { answer = Bytes (4 + 12 * edges); text = dearestText edges ++ drop (4 + 12 * edges) text }
-    written l =
-        subst (λ (n : ℕ). writeOf edges text ≡ record { answer = Bytes n; text = dearestText edges ++ drop n text }) (bytes-due edges)
-        (write.written edges text some few (omega (arith, bytes-due edges)))
+    written = write.written edges text some few
 
 -- ---- the request's cases
 -- the number and line of a refusal, or 0 and how many bytes the text has

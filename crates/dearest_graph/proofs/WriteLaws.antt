@@ -1,4 +1,4 @@
--- How long the text is, and what write answers and leaves in each of its three cases. Assumes nothing.
+-- How long the text is, and what write answers and leaves in each of its three cases, in digits. Assumes nothing.
 use mathlib.Core.Path.{_≡_, refl}
 use mathlib.Core.Bool.{Bool, true, false, _&&_}
 use mathlib.Core.List.{List, _++_}
@@ -37,11 +37,10 @@ module _ (edges : ℕ) (text : List ℕ) where
     unfolding isInside
     inside = rw (le-leb 1 edges some, le-leb edges 128 few)
 
-    pub too-short : length text < length (dearestText edges) → writeOf edges text ≡ writeEnd (Refused ShortBuffer) text
+    pub too-short : length text < 4 + 12 * edges → writeOf edges text ≡ writeEnd (Refused ShortBuffer) text
     unfolding writeOf
-    too-short l = rw (inside, lt-leb (length (dearestText edges)) (length text) l)
+    too-short l = rw (inside, lt-leb (length (dearestText edges)) (length text) (omega (arith, bytes-due edges)))
 
-    pub written : length (dearestText edges) ≤ length text
-        → writeOf edges text ≡ writeEnd (Bytes (length (dearestText edges))) (dearestText edges ++ drop (length (dearestText edges)) text)
+    pub written : 4 + 12 * edges ≤ length text → writeOf edges text ≡ writeEnd (Bytes (4 + 12 * edges)) (dearestText edges ++ drop (4 + 12 * edges) text)
     unfolding writeOf
-    written l = rw (inside, le-leb (length (dearestText edges)) (length text) l)
+    written l = rw (inside, bytes-due edges, le-leb (4 + 12 * edges) (length text) l)

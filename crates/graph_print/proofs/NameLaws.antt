@@ -52,7 +52,7 @@ new-name xs y ys d =
 pub distinct-none : Distinct []
 distinct-none i j l h = absurd (omega arith)
 
-distinct-cons : (n : Bytes) (ns : List Bytes) → (List·Memᴰ n ns → ⊥) → Distinct ns → Distinct (n ∷ ns)
+pub distinct-cons : (n : Bytes) (ns : List Bytes) → (List·Memᴰ n ns → ⊥) → Distinct ns → Distinct (n ∷ ns)
 distinct-cons n ns f d i zero l h e = absurd (omega arith)
 distinct-cons n ns f d zero (suc j) l h e = f (Memᴰ·cast e (listed ns j (omega arith)))
 distinct-cons n ns f d (suc i) (suc j) l h e = d i j (omega arith) (omega arith) e

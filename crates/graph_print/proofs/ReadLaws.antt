@@ -1,7 +1,7 @@
 -- Records that are taken one after another, as a text. Assumes nothing.
 use Prim.Native.Nat.{ℕ, _+_, _≤_}
-use mathlib.Core.Path.{_≡_, refl, ap, _∙_}
-use mathlib.Core.List.{List, [], _∷_, _++_}
+use mathlib.Core.Path.{_≡_, refl, ap, sym, _∙_}
+use mathlib.Core.List.{List, [], _∷_, _++_, append-assoc}
 use native.Mathlib.Omega.{arith}
 use borrow.Author.Tests.{ne-eqb}
 use lib.ListN.{length}
@@ -34,6 +34,12 @@ takes-append none t = t
 takes-append (more e s) t = more e (takes-append s t)
 
 -- ---- lines
+pub lines-append : (rs ss : List Record) → linesOf (rs ++ ss) ≡ linesOf rs ++ linesOf ss
+unfolding linesOf
+lines-append [] ss = refl
+lines-append (r ∷ rs) ss =
+    ap (λ (s : Bytes). lineOf (fieldsOf r) ++ (10 ∷ s)) (lines-append rs ss) ∙ sym (append-assoc (lineOf (fieldsOf r)) (10 ∷ linesOf rs) (linesOf ss))
+
 takes-read : {g k : Graph} {rs : List Record} → Takes g rs k → AllGood rs → (n : ℕ) → readLines g n (split 10 (linesOf rs)) ≡ finished k
 unfolding readLines split linesOf
 takes-read none h n = refl

@@ -1,0 +1,20 @@
+-- THE CLAIM on the stroke buffer's text. Assumes nothing.
+use Prim.Native.Nat.{ℕ, _≤_}
+use Rattle.buffer_text.specs.Text.{bufferText}
+use Rattle.buffer_text.specs.Claims.{StrokeBuffer}
+use Rattle.buffer_text.proofs.Graph.{bufferGraph}
+use Rattle.buffer_text.proofs.BufferLaws.{can-move, rejects, rejected}
+use Rattle.buffer_text.proofs.TextLaws.{graph}
+use Rattle.buffer_text.proofs.CostLaws.{built, variables}
+
+pub buffer : (k : ℕ) → 1 ≤ k → k ≤ 40 → StrokeBuffer k (bufferText k)
+buffer k h l =
+    record {
+      graph = bufferGraph k;
+      read = graph k h l;
+      rejects = rejects k h;
+      rejected = rejected k h;
+      moves = can-move k;
+      built = built k h l;
+      variables = variables k h l;
+    }

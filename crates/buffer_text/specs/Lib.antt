@@ -1,0 +1,3 @@
+-- The root of the definitions, in reading order.
+pub mod Text
+pub mod Claims

@@ -31,8 +31,11 @@ use Rattle.session_page.specs.declared.Cause as page
 use Rattle.session_page.specs.declared.Cause.the-variants as laid
 use Rattle.session_page.specs.LayOut as pages
 use Rattle.dearest_graph.specs.declared.Cause as dearest
-use Rattle.dearest_graph.specs.declared.Cause.the-variants as unwritten
-use Rattle.dearest_graph.specs.Write as graphs
+use Rattle.dearest_graph.specs.declared.Cause.the-variants as loops
+use Rattle.dearest_graph.specs.Write as dearestGraph
+use Rattle.buffer_graph.specs.declared.Cause as buffer
+use Rattle.buffer_graph.specs.declared.Cause.the-variants as counts
+use Rattle.buffer_graph.specs.Write as bufferGraph
 use Rattle.ludopoplar.specs.Codes.{codeOf}
 use Rattle.ludopoplar.specs.Claims.{Numbered}
 
@@ -101,10 +104,15 @@ lays laid.TooManyCycles = omega arith
 lays laid.ShortBuffer = omega arith
 lays laid.NotPrintable = omega arith
 
-dearests : (cause : dearest.Cause) → 1 ≤ graphs.refusalOf cause .number
-unfolding graphs.refusalOf
-dearests unwritten.EdgesOutside = omega arith
-dearests unwritten.ShortBuffer = omega arith
+dearests : (cause : dearest.Cause) → 1 ≤ dearestGraph.refusalOf cause .number
+unfolding dearestGraph.refusalOf
+dearests loops.EdgesOutside = omega arith
+dearests loops.ShortBuffer = omega arith
+
+buffers : (cause : buffer.Cause) → 1 ≤ bufferGraph.refusalOf cause .number
+unfolding bufferGraph.refusalOf
+buffers counts.StrokesOutside = omega arith
+buffers counts.ShortBuffer = omega arith
 
 number-back : (r : Refusal) → r .line < 4294967296 → codeOf r / 4294967296 ≡ r .number
 unfolding codeOf
@@ -125,6 +133,7 @@ numbered =
       check-numbered = checks;
       page-numbered = lays;
       dearest-numbered = dearests;
+      buffer-numbered = buffers;
       number-told = number-back;
       line-told = line-back;
     }

@@ -24,7 +24,9 @@ use Rattle.session_page.specs.declared.Cause as page
 use Rattle.session_page.specs.LayOut as pages
 use Rattle.session_page.specs.Claims.{LaysOut, GivenTells}
 use Rattle.dearest_graph.specs.declared.Cause as dearest
-use Rattle.dearest_graph.specs.Write as graphs
+use Rattle.dearest_graph.specs.Write as dearestGraph
+use Rattle.buffer_graph.specs.declared.Cause as buffer
+use Rattle.buffer_graph.specs.Write as bufferGraph
 use Rattle.ludopoplar.specs.Codes.{codeOf}
 use Rattle.ludopoplar.specs.Rates.{RateCallEnd, rateCallEnd}
 
@@ -37,7 +39,8 @@ pub record Numbered : Type 0 where
   pub rate-numbered : (cause : rate.Cause) → 1 ≤ rates.refusalOf cause .number
   pub check-numbered : (cause : broken.Cause) → 1 ≤ sessions.refusalOf cause .number
   pub page-numbered : (cause : page.Cause) → 1 ≤ pages.refusalOf cause .number
-  pub dearest-numbered : (cause : dearest.Cause) → 1 ≤ graphs.refusalOf cause .number
+  pub dearest-numbered : (cause : dearest.Cause) → 1 ≤ dearestGraph.refusalOf cause .number
+  pub buffer-numbered : (cause : buffer.Cause) → 1 ≤ bufferGraph.refusalOf cause .number
   -- 4,294,967,296 is 2^32
   pub number-told : (r : Refusal) → r .line < 4294967296 → codeOf r / 4294967296 ≡ r .number
   pub line-told : (r : Refusal) → r .line < 4294967296 → codeOf r % 4294967296 ≡ r .line

@@ -1,7 +1,7 @@
 // The C interface: build, write, write packed, read, start, step, run, per million, broken check, broken line and session
 // page as a static library has them; in the module checked, build with the second output, start, step and run with the
-// tally's third number; in the module graphs, dearest graph. Each function calls the one that it is named after and puts
-// what that answers where C looks for it. It returns 0 where the call is accepted, else number × 2^32 + line; results go
+// tally's third number; in the module graphs, dearest graph and buffer graph. Each function calls the one that it is named
+// after and puts what that answers where C looks for it. It returns 0 where the call is accepted, else number × 2^32 + line; results go
 // through pointers, which a refusal leaves as they were. Computes nothing itself. Exports that code, results, tally and
 // buffers are those that their definitions give; of a rate that its results are those of a division, the clause `divides`
 // of `ludo_per_million`; of a session that was measured twice what a code means and which line it is, the clauses
@@ -13,7 +13,8 @@
 // accepted call leaves and what a refused one does, the clauses `starts` of `ludo_start` and `ludo_start_checked`,
 // `steps` of `ludo_step` and `ludo_step_checked`, `runs` of `ludo_run` and `ludo_run_checked`; of the dearest graph what
 // it costs, and that no graph of as many edges without operators costs more, the clause `dearest` of
-// `ludo_dearest_graph`. `include/ludopoplar.h` declares these functions to C.
+// `ludo_dearest_graph`; of the stroke buffer's graph which cycles it rejects, the clause `buffer` of `ludo_buffer_graph`.
+// `include/ludopoplar.h` declares these functions to C.
 mod checked;
 mod graphs;
 

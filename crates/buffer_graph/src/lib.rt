@@ -47,7 +47,7 @@ impl Cause {
     }
 }
 
-// How many bytes the text for k strokes has: a count from 10 on takes one byte more.
+// How many bytes the text for k strokes has: a count from 10 on has two digits.
 fn bytes_due(k: usize) -> usize
     requires { ⌜ (1 ≤ k) × (k ≤ 40) ⌝ }
     ensures { λ r. ⌜ r ≡ length (bufferText k) ⌝ }

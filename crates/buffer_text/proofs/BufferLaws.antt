@@ -14,15 +14,15 @@ use borrow.Author.Tests.{eqb-true, eqb-false}
 use Rattle.assertion.specs.Lists.{any, From}
 use Rattle.assertion.specs.Graph.{Edge, Cycle, Setting, bitsOf, constantBits, isTerminal, isInit, holds}
 use Rattle.assertion.specs.Paths.{sinceInit, leaves, endsTerminal, antecedentsTrue, consequentFalse, RejectingPath, Rejected, isRejected, bytesOf, verdicts}
-use Rattle.assertion.proofs.ListLaws.{and-intro, and-left, and-right, same-test, any-elim}
+use Rattle.assertion.proofs.ListLaws.{and-intro, and-left, and-right, same-test, any-intro, any-elim}
 use Rattle.assertion.proofs.PathLaws.{paths-mean}
-use Rattle.buffer_text.specs.Claims.{reset, enq, deq, empty, full, countAfter, canMove, flagsWrong, movesFrom, wrongFrom, BufferRejected}
+use Rattle.buffer_text.specs.Claims.{isReset, isEnq, isDeq, isEmpty, isFull, countAfter, canMove, flagsWrong, movesFrom, wrongFrom, BufferRejected}
 use Rattle.buffer_text.proofs.Graph.{edgesAt, edgesBelow, start, bufferGraph}
 
 -- the last of the cycles from the latest init on is rejected; that an edge could be taken each time needs no test
 abbrev pub bufferRejects : ℕ → List Cycle → Bool
 bufferRejects k [] = false
-bufferRejects k (c ∷ w) = reset c && wrongFrom k 0 w
+bufferRejects k (c ∷ w) = isReset c && wrongFrom k 0 w
 
 -- ---- bits
 -- where an antecedent holds, the count after: of two edges, and of three
@@ -55,13 +55,13 @@ flags : (z w a b : Bool) → not (cond z a (not a) && cond w b (not b)) ≡ not 
 flags z w a b = ap₂ (λ (p q : Bool). not (p && q)) (flag z a) (flag w b)
 
 -- ---- an edge can always be taken
-pub can-move : (k n : ℕ) (c : Cycle) → canMove k n c ≡ true
+can-move : (k n : ℕ) (c : Cycle) → canMove k n c ≡ true
 can-move k n c = by (eqb n 0) (eqb n k) refl refl
   where
     by : (z w : Bool) → eqb n 0 ≡ z → eqb n k ≡ w → canMove k n c ≡ true
-    by true w a b = rw a (or-not-self (enq c))
-    by false true a b = rw (a, b) (or-not-self (deq c))
-    by false false a b = rw (a, b) (some-between (enq c) (deq c))
+    by true w a b = rw a (or-not-self (isEnq c))
+    by false true a b = rw (a, b) (or-not-self (isDeq c))
+    by false false a b = rw (a, b) (some-between (isEnq c) (isDeq c))
 
 moves-from : (k n : ℕ) (w : List Cycle) → movesFrom k n w ≡ true
 moves-from k n [] = refl
@@ -98,16 +98,16 @@ module _ (k : ℕ) (h : 1 ≤ k) where
       by : (z w : Bool) → eqb n 0 ≡ z → eqb n k ≡ w → Each (Told σ c k n (countAfter k n c) (flagsWrong k n c)) (edgesAt k n)
       by true true a b = absurd (omega (arith, eqb-true n 0 a, eqb-true n k b))
       by true false a b =
-          let f = flags true false (empty c) (full c) in
-          let g = goes (enq c) 1 0 in
+          let f = flags true false (isEmpty c) (isFull c) in
+          let g = goes (isEnq c) 1 0 in
           rw (a, b) ((refl, refl, λ l. omega arith, λ t. (ap suc (g .0 t), f)), ((refl, refl, λ l. omega arith, λ t. (ap suc (g .1 t), f)), tt))
       by false true a b =
-          let f = flags false true (empty c) (full c) in
-          let g = goes (deq c) (k - 1) k in
+          let f = flags false true (isEmpty c) (isFull c) in
+          let g = goes (isDeq c) (k - 1) k in
           rw (a, b) ((refl, refl, λ l. omega arith, λ t. (ap suc (g .0 t), f)), ((refl, refl, λ l. omega arith, λ t. (ap suc (g .1 t), f)), tt))
       by false false a b =
-          let f = flags false false (empty c) (full c) in
-          let g = goes-between (enq c) (deq c) (n + 1) (n - 1) n in
+          let f = flags false false (isEmpty c) (isFull c) in
+          let g = goes-between (isEnq c) (isDeq c) (n + 1) (n - 1) n in
           rw (a, b) (
             (refl, refl, λ l. omega (arith, eqb-false n k b), λ t. (ap suc (g .0 t), f)),
             ((refl, refl, λ l. omega arith, λ t. (ap suc (g .1 t), f)), ((refl, refl, λ l. omega arith, λ t. (ap suc (g .2 t), f)), tt)),
@@ -152,9 +152,18 @@ module _ (k : ℕ) (h : 1 ≤ k) where
   taken n c = any-elim (λ (e : Edge). holds [] c (e .antecedent)) (edgesAt k n) (by (eqb n 0) (eqb n k) refl refl)
     where
       by : (z w : Bool) → eqb n 0 ≡ z → eqb n k ≡ w → T (any (λ (e : Edge). holds [] c (e .antecedent)) (edgesAt k n))
-      by true w a b = rw (a, or-false (not (enq c)), or-not-self (enq c)) tt
-      by false true a b = rw (a, b, or-false (not (deq c)), or-not-self (deq c)) tt
-      by false false a b = rw (a, b, or-false (Bool·beq (enq c) (deq c)), some-between (enq c) (deq c)) tt
+      by true w a b = rw (a, or-false (not (isEnq c)), or-not-self (isEnq c)) tt
+      by false true a b = rw (a, b, or-false (not (isDeq c)), or-not-self (isDeq c)) tt
+      by false false a b = rw (a, b, or-false (Bool·beq (isEnq c) (isDeq c)), some-between (isEnq c) (isDeq c)) tt
+
+  pub never-stuck : (n : ℕ) → n ≤ k → (c : Cycle) → any (λ (e : Edge). eqb (e .from) (n + 1) && holds [] c (e .antecedent)) (bufferGraph k .edges) ≡ true
+  never-stuck n l c =
+      let x = taken n c in
+      let e = x .0 in
+      let i : List·Memᴰ e (bufferGraph k .edges) = List·Memᴰ·tail (in-edges k (suc k) n e (omega arith) (x .1)) in
+      let f : n + 1 ≡ e .from = (let s = told [] c n (x .1) .0 in omega arith) in
+      let t = and-intro (eqb (e .from) (n + 1)) _ (subst (λ (v : ℕ). T (eqb v (n + 1))) f (eqb-refl (n + 1))) (x .2) in
+      is-true _ (any-intro (λ (d : Edge). eqb (d .from) (n + 1) && holds [] c (d .antecedent)) i t)
 
   record Walk (n : ℕ) (w : List Cycle) : Type 0 where
     pub path : List Edge
@@ -195,8 +204,8 @@ module _ (k : ℕ) (h : 1 ≤ k) where
       let q = leaving 0 e (r .of-graph .0) (and-left (eqb (e .from) 0) _ (r .joined)) in
       let s = subst (λ (x : Edge). RejectingPath (bufferGraph k) σ (c ∷ w) (x ∷ p)) q r in
       let l : length p ≡ length w = (let m = s .one-a-cycle in omega arith) in
-      and-intro (reset c) _ (and-left (reset c) _ (s .antecedents))
-      (subst T (follow σ w p 0 (s .of-graph .1) l (s .joined) (and-right (reset c) _ (s .antecedents))) (s .consequent))
+      and-intro (isReset c) _ (and-left (isReset c) _ (s .antecedents))
+      (subst T (follow σ w p 0 (s .of-graph .1) l (s .joined) (and-right (isReset c) _ (s .antecedents))) (s .consequent))
 
   back : (w : List Cycle) → T (bufferRejects k w) → (p : List Edge) × RejectingPath (bufferGraph k) [] w p
   unfolding holds
@@ -209,10 +218,10 @@ module _ (k : ℕ) (h : 1 ≤ k) where
           one-a-cycle = ap suc (r .one-a-cycle);
           joined = r .joined;
           terminal = r .terminal start refl;
-          antecedents = and-intro (reset c) _ (and-left (reset c) _ t) (r .antecedents);
+          antecedents = and-intro (isReset c) _ (and-left (isReset c) _ t) (r .antecedents);
           consequent =
               subst T (sym (follow [] w (r .path) 0 (r .of-graph) (r .one-a-cycle) (r .joined) (r .antecedents)))
-              (and-right (reset c) _ t);
+              (and-right (isReset c) _ t);
         },
       )
 
@@ -231,8 +240,8 @@ module _ (k : ℕ) (h : 1 ≤ k) where
         (λ t. passes (paths-mean .found (bufferGraph k) cs (is-true (isRejected (bufferGraph k) cs) t)))
         (λ t. subst T (sym (paths-mean .finds (bufferGraph k) cs (passed t))) tt)
 
-    pub rejects : Rejected (bufferGraph k) cs → BufferRejected k cs
-    rejects r = by (any isInit cs) refl
+    pub only-when : Rejected (bufferGraph k) cs → BufferRejected k cs
+    only-when r = by (any isInit cs) refl
       where
         by : (i : Bool) → any isInit cs ≡ i → BufferRejected k cs
         by true i =
@@ -240,14 +249,14 @@ module _ (k : ℕ) (h : 1 ≤ k) where
             let t = subst (λ (w : List Cycle). T (bufferRejects k w)) (l .since) (passes r) in
             record {
               init = l;
-              was-reset = is-true (reset (l .first)) (and-left (reset (l .first)) _ t);
+              was-reset = is-true (isReset (l .first)) (and-left (isReset (l .first)) _ t);
               moves = moves-from k 0 (l .later);
-              wrong = is-true (wrongFrom k 0 (l .later)) (and-right (reset (l .first)) _ t);
+              wrong = is-true (wrongFrom k 0 (l .later)) (and-right (isReset (l .first)) _ t);
             }
         by false i = absurd (subst (λ (w : List Cycle). T (bufferRejects k w)) (paths-mean .before-init cs i) (passes r))
 
-    pub rejected : BufferRejected k cs → Rejected (bufferGraph k) cs
-    rejected s = passed (rw (s .init .since, s .was-reset, s .wrong) tt)
+    pub whenever : BufferRejected k cs → Rejected (bufferGraph k) cs
+    whenever s = passed (rw (s .init .since, s .was-reset, s .wrong) tt)
 
   -- each verdict byte
   pub bytes : (seen cs : List Cycle) → verdicts (bufferGraph k) seen cs ≡ bytesOf (λ xs. bufferRejects k (sinceInit xs)) seen cs

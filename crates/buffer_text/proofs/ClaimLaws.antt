@@ -3,7 +3,7 @@ use Prim.Native.Nat.{ℕ, _≤_}
 use Rattle.buffer_text.specs.Text.{bufferText}
 use Rattle.buffer_text.specs.Claims.{StrokeBuffer}
 use Rattle.buffer_text.proofs.Graph.{bufferGraph}
-use Rattle.buffer_text.proofs.BufferLaws.{can-move, rejects, rejected}
+use Rattle.buffer_text.proofs.BufferLaws.{only-when, whenever, never-stuck}
 use Rattle.buffer_text.proofs.TextLaws.{graph}
 use Rattle.buffer_text.proofs.CostLaws.{built, variables}
 
@@ -12,9 +12,9 @@ buffer k h l =
     record {
       graph = bufferGraph k;
       read = graph k h l;
-      rejects = rejects k h;
-      rejected = rejected k h;
-      moves = can-move k;
+      only-when = only-when k h;
+      whenever = whenever k h;
+      never-stuck = never-stuck k h;
       built = built k h l;
       variables = variables k h l;
     }

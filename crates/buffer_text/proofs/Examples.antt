@@ -1,13 +1,16 @@
--- The request's cases, worked: texts, and verdict bytes of traces by the graph that a text is read as. Assumes nothing.
-use mathlib.Core.Path.{_≡_, refl}
-use mathlib.Core.List.{[], _∷_}
+-- The request's cases, worked: texts, and the verdict bytes of traces by the graph that a text is read as. Assumes nothing.
+use Prim.Native.Nat.{ℕ, _≤_}
+use mathlib.Core.Path.{_≡_, refl, ap, _∙_}
+use mathlib.Core.List.{List, [], _∷_}
 use lib.Dec.{lit≤}
 use Rattle.text.specs.Quoted.{bytes}
 use Rattle.text.specs.Numbers.{digits, digitsOf}
-use Rattle.assertion.specs.Graph.{input, isInit}
-use Rattle.assertion.specs.Paths.{verdicts}
+use Rattle.assertion.specs.Graph.{Cycle, input, isInit}
+use Rattle.assertion.specs.Paths.{sinceInit, bytesOf, verdicts}
+use Rattle.graph.specs.Reading.{Outcome, refused, accepted, graphOf}
 use Rattle.buffer_text.specs.Text.{heading, vertexLine, startLine, edgeLine, countLines, bufferText}
-use Rattle.buffer_text.proofs.Graph.{bufferGraph}
+use Rattle.buffer_text.proofs.TextLaws.{graph}
+use Rattle.buffer_text.proofs.BufferLaws.{bufferRejects}
 use Rattle.buffer_text.proofs.BufferLaws as laws
 
 -- ---- texts: of one stroke, where no count is between; and the edges of a count between, with two digits
@@ -22,67 +25,81 @@ unfolding edgeLine countLines digits digitsOf
 lines-of-ten = refl
 
 -- ---- traces: init, reset, enq, deq, empty, full
+abbrev judgedBy : Outcome → List Cycle → List ℕ
+judgedBy (accepted g) cs = verdicts g [] cs
+judgedBy (refused cause) cs = []
+
+abbrev bytesFor : ℕ → List Cycle → List ℕ
+bytesFor k cs = judgedBy (graphOf (bufferText k)) cs
+
+bytes-for : (k : ℕ) → 1 ≤ k → k ≤ 40 → (cs : List Cycle) → bytesFor k cs ≡ bytesOf (λ xs. bufferRejects k (sinceInit xs)) [] cs
+bytes-for k h l cs = ap (λ (o : Outcome). judgedBy o cs) (graph k h l) ∙ laws.bytes k h [] cs
+
 -- flags right
-trace-1 : verdicts (bufferGraph 1) [] (bytes "110000" ∷ bytes "000010" ∷ []) ≡ 0 ∷ 0 ∷ []
+trace-1 : bytesFor 1 (bytes "110000" ∷ bytes "000010" ∷ []) ≡ 0 ∷ 0 ∷ []
 unfolding input isInit
-trace-1 = rw (laws.bytes 1 (lit≤ tt) [])
+trace-1 = rw (bytes-for 1 (lit≤ tt) (lit≤ tt))
 
-trace-2 : verdicts (bufferGraph 1) [] (bytes "110000" ∷ bytes "001010" ∷ bytes "000001" ∷ []) ≡ 0 ∷ 0 ∷ 0 ∷ []
+trace-2 : bytesFor 1 (bytes "110000" ∷ bytes "001010" ∷ bytes "000001" ∷ []) ≡ 0 ∷ 0 ∷ 0 ∷ []
 unfolding input isInit
-trace-2 = rw (laws.bytes 1 (lit≤ tt) [])
+trace-2 = rw (bytes-for 1 (lit≤ tt) (lit≤ tt))
 
-trace-3 : verdicts (bufferGraph 1) [] (bytes "110000" ∷ bytes "001010" ∷ bytes "000010" ∷ []) ≡ 0 ∷ 0 ∷ 1 ∷ []
+trace-3 : bytesFor 1 (bytes "110000" ∷ bytes "001010" ∷ bytes "000010" ∷ []) ≡ 0 ∷ 0 ∷ 1 ∷ []
 unfolding input isInit
-trace-3 = rw (laws.bytes 1 (lit≤ tt) [])
+trace-3 = rw (bytes-for 1 (lit≤ tt) (lit≤ tt))
 
 -- once wrong, every later cycle is rejected
-trace-4 : verdicts (bufferGraph 1) [] (bytes "110000" ∷ bytes "000000" ∷ bytes "000010" ∷ []) ≡ 0 ∷ 1 ∷ 1 ∷ []
+trace-4 : bytesFor 1 (bytes "110000" ∷ bytes "000000" ∷ bytes "000010" ∷ []) ≡ 0 ∷ 1 ∷ 1 ∷ []
 unfolding input isInit
-trace-4 = rw (laws.bytes 1 (lit≤ tt) [])
+trace-4 = rw (bytes-for 1 (lit≤ tt) (lit≤ tt))
 
 -- reset is low at the init
-trace-5 : verdicts (bufferGraph 1) [] (bytes "100000" ∷ bytes "000000" ∷ bytes "000000" ∷ []) ≡ 0 ∷ 0 ∷ 0 ∷ []
+trace-5 : bytesFor 1 (bytes "100000" ∷ bytes "000000" ∷ bytes "000000" ∷ []) ≡ 0 ∷ 0 ∷ 0 ∷ []
 unfolding input isInit
-trace-5 = rw (laws.bytes 1 (lit≤ tt) [])
+trace-5 = rw (bytes-for 1 (lit≤ tt) (lit≤ tt))
 
 -- no init
-trace-6 : verdicts (bufferGraph 1) [] (bytes "000000" ∷ bytes "000001" ∷ []) ≡ 0 ∷ 0 ∷ []
+trace-6 : bytesFor 1 (bytes "000000" ∷ bytes "000001" ∷ []) ≡ 0 ∷ 0 ∷ []
 unfolding input isInit
-trace-6 = rw (laws.bytes 1 (lit≤ tt) [])
+trace-6 = rw (bytes-for 1 (lit≤ tt) (lit≤ tt))
 
 -- enq and deq at 0: the listing goes up
-trace-7 : verdicts (bufferGraph 1) [] (bytes "110000" ∷ bytes "001110" ∷ bytes "000001" ∷ []) ≡ 0 ∷ 0 ∷ 0 ∷ []
+trace-7 : bytesFor 1 (bytes "110000" ∷ bytes "001110" ∷ bytes "000001" ∷ []) ≡ 0 ∷ 0 ∷ 0 ∷ []
 unfolding input isInit
-trace-7 = rw (laws.bytes 1 (lit≤ tt) [])
+trace-7 = rw (bytes-for 1 (lit≤ tt) (lit≤ tt))
+
+trace-15 : bytesFor 1 (bytes "110000" ∷ bytes "001110" ∷ bytes "000010" ∷ []) ≡ 0 ∷ 0 ∷ 1 ∷ []
+unfolding input isInit
+trace-15 = rw (bytes-for 1 (lit≤ tt) (lit≤ tt))
 
 -- deq alone at 0 stays
-trace-8 : verdicts (bufferGraph 2) [] (bytes "110000" ∷ bytes "000110" ∷ bytes "000010" ∷ []) ≡ 0 ∷ 0 ∷ 0 ∷ []
+trace-8 : bytesFor 2 (bytes "110000" ∷ bytes "000110" ∷ bytes "000010" ∷ []) ≡ 0 ∷ 0 ∷ 0 ∷ []
 unfolding input isInit
-trace-8 = rw (laws.bytes 2 (lit≤ tt) [])
+trace-8 = rw (bytes-for 2 (lit≤ tt) (lit≤ tt))
 
 -- enq and deq at k: the listing goes down
-trace-9 : verdicts (bufferGraph 2) [] (bytes "110000" ∷ bytes "001010" ∷ bytes "001000" ∷ bytes "001101" ∷ bytes "000000" ∷ []) ≡ 0 ∷ 0 ∷ 0 ∷ 0 ∷ 0 ∷ []
+trace-9 : bytesFor 2 (bytes "110000" ∷ bytes "001010" ∷ bytes "001000" ∷ bytes "001101" ∷ bytes "000000" ∷ []) ≡ 0 ∷ 0 ∷ 0 ∷ 0 ∷ 0 ∷ []
 unfolding input isInit
-trace-9 = rw (laws.bytes 2 (lit≤ tt) [])
+trace-9 = rw (bytes-for 2 (lit≤ tt) (lit≤ tt))
 
-trace-10 : verdicts (bufferGraph 2) [] (bytes "110000" ∷ bytes "001010" ∷ bytes "001000" ∷ bytes "001101" ∷ bytes "000001" ∷ []) ≡ 0 ∷ 0 ∷ 0 ∷ 0 ∷ 1 ∷ []
+trace-10 : bytesFor 2 (bytes "110000" ∷ bytes "001010" ∷ bytes "001000" ∷ bytes "001101" ∷ bytes "000001" ∷ []) ≡ 0 ∷ 0 ∷ 0 ∷ 0 ∷ 1 ∷ []
 unfolding input isInit
-trace-10 = rw (laws.bytes 2 (lit≤ tt) [])
+trace-10 = rw (bytes-for 2 (lit≤ tt) (lit≤ tt))
 
-trace-11 : verdicts (bufferGraph 2) [] (bytes "110000" ∷ bytes "001010" ∷ bytes "001110" ∷ bytes "000010" ∷ []) ≡ 0 ∷ 0 ∷ 1 ∷ 1 ∷ []
+trace-11 : bytesFor 2 (bytes "110000" ∷ bytes "001010" ∷ bytes "001110" ∷ bytes "000010" ∷ []) ≡ 0 ∷ 0 ∷ 1 ∷ 1 ∷ []
 unfolding input isInit
-trace-11 = rw (laws.bytes 2 (lit≤ tt) [])
+trace-11 = rw (bytes-for 2 (lit≤ tt) (lit≤ tt))
 
 -- a new init
-trace-12 : verdicts (bufferGraph 1) [] (bytes "110000" ∷ bytes "000001" ∷ bytes "110000" ∷ bytes "000010" ∷ []) ≡ 0 ∷ 1 ∷ 0 ∷ 0 ∷ []
+trace-12 : bytesFor 1 (bytes "110000" ∷ bytes "000001" ∷ bytes "110000" ∷ bytes "000010" ∷ []) ≡ 0 ∷ 1 ∷ 0 ∷ 0 ∷ []
 unfolding input isInit
-trace-12 = rw (laws.bytes 1 (lit≤ tt) [])
+trace-12 = rw (bytes-for 1 (lit≤ tt) (lit≤ tt))
 
-trace-13 : verdicts (bufferGraph 1) [] (bytes "110000" ∷ bytes "000001" ∷ bytes "100000" ∷ bytes "000001" ∷ []) ≡ 0 ∷ 1 ∷ 0 ∷ 0 ∷ []
+trace-13 : bytesFor 1 (bytes "110000" ∷ bytes "000001" ∷ bytes "100000" ∷ bytes "000001" ∷ []) ≡ 0 ∷ 1 ∷ 0 ∷ 0 ∷ []
 unfolding input isInit
-trace-13 = rw (laws.bytes 1 (lit≤ tt) [])
+trace-13 = rw (bytes-for 1 (lit≤ tt) (lit≤ tt))
 
 -- reset is not read again
-trace-14 : verdicts (bufferGraph 3) [] (bytes "110000" ∷ bytes "011010" ∷ bytes "000000" ∷ []) ≡ 0 ∷ 0 ∷ 0 ∷ []
+trace-14 : bytesFor 3 (bytes "110000" ∷ bytes "011010" ∷ bytes "000000" ∷ []) ≡ 0 ∷ 0 ∷ 0 ∷ []
 unfolding input isInit
-trace-14 = rw (laws.bytes 3 (lit≤ tt) [])
+trace-14 = rw (bytes-for 3 (lit≤ tt) (lit≤ tt))

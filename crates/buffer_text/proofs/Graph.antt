@@ -43,14 +43,14 @@ abbrev pub alike : Spelled → Spelled → Spelled
 alike a b = record { tree = same (a .tree) (b .tree); text = a .text ++ (byte "=" ∷ b .text) }
 
 -- the consequents at 0, at k and between
-abbrev pub isNone : Spelled
-isNone = both empty (off full)
+abbrev pub noneFlags : Spelled
+noneFlags = both empty (off full)
 
-abbrev pub isAll : Spelled
-isAll = both (off empty) full
+abbrev pub allFlags : Spelled
+allFlags = both (off empty) full
 
-abbrev pub isSome : Spelled
-isSome = both (off empty) (off full)
+abbrev pub someFlags : Spelled
+someFlags = both (off empty) (off full)
 
 -- ---- edges
 abbrev pub edge : ℕ → ℕ → Spelled → Spelled → Edge
@@ -71,10 +71,10 @@ counting n m a c = edge (suc n) (suc m) a c
 
 -- those from count n, told whether it is 0 and whether it is k
 abbrev pub edgesOf : Bool → Bool → ℕ → ℕ → List Edge
-edgesOf true w k n = counting n 1 enq isNone ∷ counting n 0 (off enq) isNone ∷ []
-edgesOf false true k n = counting n (k - 1) deq isAll ∷ counting n k (off deq) isAll ∷ []
+edgesOf true w k n = counting n 1 enq noneFlags ∷ counting n 0 (off enq) noneFlags ∷ []
+edgesOf false true k n = counting n (k - 1) deq allFlags ∷ counting n k (off deq) allFlags ∷ []
 edgesOf false false k n =
-    counting n (n + 1) (both enq (off deq)) isSome ∷ counting n (n - 1) (both (off enq) deq) isSome ∷ counting n n (alike enq deq) isSome ∷ []
+    counting n (n + 1) (both enq (off deq)) someFlags ∷ counting n (n - 1) (both (off enq) deq) someFlags ∷ counting n n (alike enq deq) someFlags ∷ []
 
 abbrev pub edgesAt : ℕ → ℕ → List Edge
 edgesAt k n = edgesOf (eqb n 0) (eqb n k) k n

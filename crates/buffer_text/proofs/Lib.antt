@@ -6,3 +6,4 @@ mod TextLaws
 mod CostLaws
 pub mod ClaimLaws
 mod Examples
+mod Prose

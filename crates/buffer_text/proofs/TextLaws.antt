@@ -7,7 +7,7 @@ use native.Mathlib.Numerals.{add-one}
 use native.Mathlib.Omega.{arith}
 use native.Mathlib.Decide.{ℕ-discrete, decLt}
 use borrow.Author.Tests.{le-leb, lt-leb, eqb-false}
-use lib.Dec.{eqb, lit≤, lit<}
+use lib.Dec.{eqb, lit≤}
 use lib.ListN.{length, getD, length-append, List·getD-append}
 use lib.Seq.{getD-append-seam}
 use Rattle.text.specs.Quoted.{byte, bytes}
@@ -24,12 +24,12 @@ use Rattle.graph.specs.Reading.{known, fits, symbol, resolved, judgedTree, tree
 use Rattle.graph.specs.Reading as reading
 use Rattle.graph.proofs.FormulaTextLaws.{place-inside, place-finds}
 use Rattle.graph_print.proofs.Print.{markOf, widthField, fieldsOf, lineOf, linesOf, modeRecords, signalRecord, edgeRecord, recordsOf, textOf}
-use Rattle.graph_print.proofs.Printable.{AllNames, Sized, Distinct, Label, EdgePrints, AllPrint, Printable}
+use Rattle.graph_print.proofs.Printable.{AllNames, Sized, Distinct, Label, AllPrint, Printable}
 use Rattle.graph_print.proofs.NameLaws.{distinct-cons, distinct-by}
 use Rattle.graph_print.proofs.ReadLaws.{lines-append}
 use Rattle.graph_print.proofs.PrintLaws.{printed}
 use Rattle.buffer_text.specs.Text.{heading, vertexLine, startLine, edgeLine, countLines, bufferText}
-use Rattle.buffer_text.proofs.Graph.{Spelled, reset, enq, deq, empty, full, always, off, both, alike, isNone, isAll, isSome, counting, edgesOf, edgesAt, edgesBelow, start, countName, namesBelow, bufferGraph}
+use Rattle.buffer_text.proofs.Graph.{Spelled, reset, enq, deq, empty, full, always, off, both, alike, noneFlags, allFlags, someFlags, counting, edgesOf, edgesAt, edgesBelow, start, countName, namesBelow, bufferGraph}
 use Rattle.buffer_text.proofs.SizeLaws.{size-small, size-large}
 
 -- ---- the vertices' names
@@ -104,9 +104,9 @@ module _ (k : ℕ) where
     l-up : Written (both enq (off deq))
     l-down : Written (both (off enq) deq)
     l-stay : Written (alike enq deq)
-    l-none : Written isNone
-    l-all : Written isAll
-    l-some : Written isSome
+    l-none : Written noneFlags
+    l-all : Written allFlags
+    l-some : Written someFlags
 
   labels : Labels
   unfolding classOf isLetter isWordClass strengthOf startOf run nameBytes isName andThen nameOf closed operandOf expressionOf restOf whole treeOf depthOf pieces.same placed lookUpName known fits reading.joined symbol resolved judgedTree treeExpr bitsOf signalBits
@@ -179,20 +179,20 @@ module _ (k : ℕ) where
   count-prints n true w d e h l =
       rw d
       (append-prints
-      (edge-prints n 1 enq isNone l h (labels .l-enq) (labels .l-none))
-      (edge-prints n 0 (off enq) isNone l (omega arith) (labels .l-no-enq) (labels .l-none)))
+      (edge-prints n 1 enq noneFlags l h (labels .l-enq) (labels .l-none))
+      (edge-prints n 0 (off enq) noneFlags l (omega arith) (labels .l-no-enq) (labels .l-none)))
   count-prints n false true d e h l =
       rw (d, e)
       (append-prints
-      (edge-prints n (k - 1) deq isAll l (omega arith) (labels .l-deq) (labels .l-all))
-      (edge-prints n k (off deq) isAll l (omega arith) (labels .l-no-deq) (labels .l-all)))
+      (edge-prints n (k - 1) deq allFlags l (omega arith) (labels .l-deq) (labels .l-all))
+      (edge-prints n k (off deq) allFlags l (omega arith) (labels .l-no-deq) (labels .l-all)))
   count-prints n false false d e h l =
       rw (d, e)
       (append-prints
-      (edge-prints n (n + 1) (both enq (off deq)) isSome l (omega (arith, eqb-false n k e)) (labels .l-up) (labels .l-some))
+      (edge-prints n (n + 1) (both enq (off deq)) someFlags l (omega (arith, eqb-false n k e)) (labels .l-up) (labels .l-some))
       (append-prints
-      (edge-prints n (n - 1) (both (off enq) deq) isSome l (omega arith) (labels .l-down) (labels .l-some))
-      (edge-prints n n (alike enq deq) isSome l l (labels .l-stay) (labels .l-some))))
+      (edge-prints n (n - 1) (both (off enq) deq) someFlags l (omega arith) (labels .l-down) (labels .l-some))
+      (edge-prints n n (alike enq deq) someFlags l l (labels .l-stay) (labels .l-some))))
 
   counts-print : (m : ℕ) → 1 ≤ k → m ≤ suc k → Prints (edgesBelow k m) (joined (countLines k) m)
   counts-print zero h l = none-prints

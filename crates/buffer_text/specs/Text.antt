@@ -26,7 +26,8 @@ unfoldable pub edgeLine : ℕ → ℕ → Bytes → Bytes
 edgeLine n m labels = bytes "E\tn" ++ (digits n ++ (bytes "\tn" ++ (digits m ++ (bytes "\tt\t" ++ (labels ++ bytes "\n")))))
 
 -- the listing's edges from count n, "at each in the listing's order", incr, decr, stay, by its tests: 0, then k, then else;
--- "labels are the listing's, in these names, without outer brackets"
+-- "labels are the listing's, in these names, without outer brackets"; "where its prose and listing differ, the listing
+-- decides": at 0 it goes up on `enq` whatever `deq`, at k down on `deq` whatever `enq`
 unfoldable pub countLines : ℕ → ℕ → Bytes
 countLines k n =
     cond (eqb n 0) (edgeLine n 1 (bytes "enq\tempty&!full") ++ edgeLine n 0 (bytes "!enq\tempty&!full"))

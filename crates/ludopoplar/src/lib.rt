@@ -1,20 +1,20 @@
 // The C interface: build, write, write packed, read, start, step, run, per million, broken check, broken line and session
 // page as a static library has them; in the module checked, build with the second output, start, step and run with the
 // tally's third number; in the module graphs, dearest graph and buffer graph. Each function calls the one that it is named
-// after and puts what that answers where C looks for it. It returns 0 where the call is accepted, else number × 2^32 + line; results go
-// through pointers, which a refusal leaves as they were. Computes nothing itself. Exports that code, results, tally and
-// buffers are those that their definitions give; of a rate that its results are those of a division, the clause `divides`
-// of `ludo_per_million`; of a session that was measured twice what a code means and which line it is, the clauses
-// `checks` of `ludo_broken_check` and `first` of `ludo_broken_line`; of a session page what stands in its columns and
-// that it tells graph name and verdict bytes, the clauses `lays` and `tells` of `ludo_session_page`; of a build what
-// it answers and, where that is 0, that its numbers do what demand 3 asks, the clauses `answers` and `demand` of
-// `ludo_build` and `ludo_build_checked`; of write and read what they return and leave, by the files of both forms, the
+// after and puts what that answers where C looks for it. It returns 0 where the call is accepted, else number × 2^32 +
+// line; results go through pointers, which a refusal leaves as they were. Computes nothing itself. Exports that code,
+// results, tally and buffers are those that their definitions give; of a rate that its results are those of a division,
+// the clause `divides` of `ludo_per_million`; of a session that was measured twice what a code means and which line it is,
+// the clauses `checks` of `ludo_broken_check` and `first` of `ludo_broken_line`; of a session page what stands in its
+// columns and that it tells graph name and verdict bytes, the clauses `lays` and `tells` of `ludo_session_page`; of a
+// build what it answers and, where that is 0, that its numbers do what demand 3 asks, the clauses `answers` and `demand`
+// of `ludo_build` and `ludo_build_checked`; of write and read what they return and leave, by the files of both forms, the
 // clauses `writes` of `ludo_write` and `ludo_write_packed` and `reads` of `ludo_read`; of start, step and run what an
-// accepted call leaves and what a refused one does, the clauses `starts` of `ludo_start` and `ludo_start_checked`,
-// `steps` of `ludo_step` and `ludo_step_checked`, `runs` of `ludo_run` and `ludo_run_checked`; of the dearest graph what
-// it costs, and that no graph of as many edges without operators costs more, the clause `dearest` of
-// `ludo_dearest_graph`; of the stroke buffer's graph which cycles it rejects, the clause `buffer` of `ludo_buffer_graph`.
-// `include/ludopoplar.h` declares these functions to C.
+// accepted call leaves and what a refused one does, the clauses `starts` of `ludo_start` and `ludo_start_checked`, `steps`
+// of `ludo_step` and `ludo_step_checked`, `runs` of `ludo_run` and `ludo_run_checked`; of the dearest graph what it costs,
+// and that no graph of as many edges without operators costs more, the clause `dearest` of `ludo_dearest_graph`; of the
+// stroke buffer's graph which cycles it rejects, the clause `buffer` of `ludo_buffer_graph`. `include/ludopoplar.h`
+// declares these functions to C.
 mod checked;
 mod graphs;
 

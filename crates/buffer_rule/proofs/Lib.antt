@@ -1,0 +1,4 @@
+-- The laws that belong to no one function.
+mod StrokesLaws
+mod PageLaws
+mod Examples

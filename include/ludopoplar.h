@@ -2,7 +2,7 @@
    circuits as AIGER files, runs them cycle by cycle, counts the cycles in which a rule was at stake, tells
    rejections in a million cycles, finds the line that was rejected first in the two traces of a session, lays
    the verdicts of a run out as a page for the wall, and writes the dearest graph of so many edges, from which a
-   gate array is sized.
+   gate array is sized, and the graph of a buffer of so many strokes.
 
    Link with libludopoplar.a (x86-64 Linux). It needs memcpy and memset of the C library and nothing else.
 
@@ -48,6 +48,7 @@
                      bytes after the last gate
        19     its    graph: in a formula, names of unequal widths compared, a bit beyond the width, or a name of
                      several bits where one bit is due
+       20     0      stroke buffer's graph: number of strokes outside 1 to 40
        21     0      tally: no cycle, or more rejected than cycles
        22     0      session page: graph name not of 1 to 24 letters, digits or _, or a verdict above 1
        23     0      AIGER, ASCII form: gates that wait on each other, or a gate on itself
@@ -60,8 +61,8 @@
      among them, then of a packed file its byte runs in order, each for 18 before 14, and 18 for what follows
      them, of an ASCII file 23, then 12; write, packed write and start 16, 12; step 16, 15, 12, 17; run 1, then
      as step; per million 21; broken check 1 of either trace, 26, 15 of the flywheel trace, 15 of the handle
-     trace, 25; session page 1, 22, 12; dearest graph 24, 12. A call whose name ends in _checked checks what the
-     one without it checks, in the same order.
+     trace, 25; session page 1, 22, 12; dearest graph 24, 12; stroke buffer's graph 20, 12. A call whose name ends
+     in _checked checks what the one without it checks, in the same order.
 
    Netlist: uint16_t numbers, 5 + 2L + O + 2A of them, at most 8,195
      M I L O A               highest variable, inputs, latches, outputs, AND gates
@@ -241,6 +242,24 @@ uint64_t ludo_session_page(const uint8_t *name, size_t name_len, const uint8_t *
    edges and without & ^ | = and == costs more, whatever its mode, names, vertices and marks; ! and brackets cost
    nothing. ludo_build_checked adds gates of its own. */
 uint64_t ludo_dearest_graph(uint64_t edges, uint8_t *text, size_t text_len, uint64_t *length);
+
+/* Writes the graph of a buffer of `strokes` strokes, 1 to 40, into `text`; `*length` is its number of bytes,
+   100 * strokes + 72 up to 9 strokes and 107 * strokes + 7 from 10 on, so at most 4,287. Its signals are reset,
+   enq, deq, empty and full, so a cycle has six bytes, init first. Vertices n0, n1 and so on stand for so many
+   strokes in the buffer; each edge has mark t. With one stroke, lines parted by | and fields by blanks:
+
+     S reset | S enq | S deq | S empty | S full | V s | V n0 | V n1 | E s n0 t reset 1
+     E n0 n1 t enq empty&!full | E n0 n0 t !enq empty&!full
+     E n1 n0 t deq !empty&full | E n1 n1 t !deq !empty&full
+
+   An init cycle with reset 1 sets the count to 0. In each cycle after it empty must be 1 exactly where the count
+   before the cycle is 0, and full exactly where it is `strokes`; where one of them is wrong, that cycle and all
+   later ones are rejected until the next init. Nothing is rejected before any init, nor where reset was 0 in the
+   latest; in other cycles reset is not read. At 0 the count goes up with enq and at `strokes` down with deq,
+   whatever the other is; between them it goes up with enq alone and down with deq alone.
+
+   ludo_build makes 36 * strokes + 13 gates of it, in a netlist of 84 * strokes + 40 numbers. */
+uint64_t ludo_buffer_graph(uint64_t strokes, uint8_t *text, size_t text_len, uint64_t *length);
 
 #ifdef __cplusplus
 }

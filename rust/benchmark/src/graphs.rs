@@ -2,22 +2,13 @@
 
 use std::fmt::Write as _;
 
-/// The stroke buffer of source 001, section 5: how many strokes the buffer
-/// holds, and when its flags say empty and full.
+/// The stroke buffer's graph, as the library writes it: how many strokes the buffer holds, and when
+/// its flags say empty and full.
 pub fn stroke_buffer(places: usize) -> String {
-    let mut text = String::new();
-    for signal in ["reset", "enq", "deq", "empty", "full"] {
-        record(&mut text, &["S", signal]);
-    }
-    record(&mut text, &["V", "s"]);
-    for count in 0..=places {
-        record(&mut text, &["V", &counting(count)]);
-    }
-    record(&mut text, &["E", "s", &counting(0), "t", "reset", "1"]);
-    for count in 0..=places {
-        counting_edges(&mut text, count, places);
-    }
-    text
+    let mut text = vec![0; 4_287];
+    let length = ludopoplar::buffer_graph(places as u64, &mut text).expect("1 to 40 strokes");
+    text.truncate(length);
+    String::from_utf8(text).expect("a text of ASCII bytes")
 }
 
 /// A buffer that keeps what is put into it: the stroke buffer's counts, and for

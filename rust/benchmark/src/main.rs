@@ -1,6 +1,6 @@
 //! Measures the proved library beside the reference and, for `run`, a C loop; `run` with two
 //! outputs beside `run` with one; files of the packed form beside those of text; texts whose gates
-//! stand in other orders; and the writing of the dearest graph.
+//! stand in other orders; and the writing of graphs.
 //! The results of all of them are compared before anything is timed.
 
 mod bench;
@@ -22,7 +22,7 @@ const RUNS: usize = 7;
 const SHORT_CALLS: usize = 300;
 /// Cycles in a row of steps.
 const STEPS: usize = 100;
-/// Texts in a row of dearest graphs.
+/// Texts in a row, of each graph that is written.
 const TEXTS: usize = 100;
 
 fn main() {
@@ -44,7 +44,18 @@ fn main() {
     );
     report_build_by_size();
     report_read_by_order();
-    report_dearest_graph();
+    report_graph(
+        "dearest graph of 128 edges",
+        [0; 1_540],
+        |text| ludopoplar::dearest_graph(128, text),
+        |text| reference::dearest_graph(128, text),
+    );
+    report_graph(
+        "stroke buffer's graph of 40 strokes",
+        [0; 4_287],
+        |text| ludopoplar::buffer_graph(40, text),
+        |text| reference::buffer_graph(40, text),
+    );
 }
 
 /// The calls on the netlist with one output, and `run` on that with two beside it.
@@ -336,24 +347,28 @@ fn report_read_by_order() {
     }
 }
 
-/// Of as many edges as a graph may have.
-fn report_dearest_graph() {
-    const EDGES: u64 = 128;
-    let (mut text, mut other) = ([0; 1_540], [0; 1_540]);
-    accepted(ludopoplar::dearest_graph(EDGES, &mut text));
-    accepted(reference::dearest_graph(EDGES, &mut other));
+/// The writing of a graph, into a buffer of just its length.
+fn report_graph<const LENGTH: usize, Refusal: Debug, OtherRefusal: Debug>(
+    name: &str,
+    mut text: [u8; LENGTH],
+    by_library: fn(&mut [u8]) -> Result<usize, Refusal>,
+    by_reference: fn(&mut [u8]) -> Result<usize, OtherRefusal>,
+) {
+    let mut other = text;
+    accepted(by_library(&mut text));
+    accepted(by_reference(&mut other));
     assert_eq!(text, other, "the graphs differ");
     let [library, reference] = best(
         SHORT_CALLS,
         [
-            &mut || (0..TEXTS).for_each(|_| accepted(ludopoplar::dearest_graph(EDGES, &mut text))),
-            &mut || (0..TEXTS).for_each(|_| accepted(reference::dearest_graph(EDGES, &mut other))),
+            &mut || (0..TEXTS).for_each(|_| accepted(by_library(&mut text))),
+            &mut || (0..TEXTS).for_each(|_| accepted(by_reference(&mut other))),
         ],
     );
     println!(
-        "\ndearest graph of {EDGES} edges\n  write  {}, {}; reference {}",
+        "\n{name}\n  write  {}, {}; reference {}",
         duration(library / TEXTS as f64),
-        megabytes(TEXTS * text.len(), library),
+        megabytes(TEXTS * LENGTH, library),
         ratio(reference, library),
     );
 }

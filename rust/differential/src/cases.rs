@@ -1,18 +1,21 @@
 //! The cases: one call, or a list of calls on one netlist; and now and then a session, a session
-//! page, a packed file, a text with its gates in any order, or the dearest graph.
+//! page, a packed file, a text with its gates in any order, the dearest graph, or the stroke
+//! buffer's, written or run.
 
 use crate::bench::Bench;
 use crate::compare::{Call, Lengths, Memory, Mismatch, Name};
 use crate::gates::check_gates;
 use crate::random::Random;
 use crate::round_trip::{both_forms, write_and_read_back};
+use crate::texts::{BUFFER, DEAREST};
 use crate::{
-    aigers, graphs, loose, netlists, packs, pages, rates, sequence, sessions, texts, traces,
+    aigers, buffers, graphs, loose, netlists, packs, pages, rates, sequence, sessions, traces,
 };
 use reference::{Netlist, Tally};
 
-/// The session, then the page, then the packed file, then the text of loose gates and then the
-/// dearest graph are drawn last, so that the others' draws do not depend on them.
+/// The session, then the page, then the packed file, then the text of loose gates, then the
+/// dearest graph and then the stroke buffer's are drawn last, so that the others' draws do not
+/// depend on them.
 pub fn case(bench: &mut Bench) -> Result<(), Mismatch> {
     calls(bench)?;
     if bench.random.once_in(4) {
@@ -29,7 +32,13 @@ pub fn case(bench: &mut Bench) -> Result<(), Mismatch> {
         read_file(bench, file)?;
     }
     if bench.random.once_in(4) {
-        texts::any(bench)?;
+        DEAREST.any(bench)?;
+    }
+    if bench.random.once_in(4) {
+        BUFFER.any(bench)?;
+    }
+    if bench.random.once_in(4) {
+        buffers::any(bench)?;
     }
     Ok(())
 }

@@ -25,6 +25,7 @@ pub enum Name {
     BrokenLine,
     SessionPage,
     DearestGraph,
+    BufferGraph,
 }
 
 impl Name {
@@ -64,8 +65,8 @@ pub struct Call {
     session: Option<Session>,
     /// What `SessionPage` reads instead.
     record: Option<Record>,
-    /// What `DearestGraph` is told instead.
-    edges: Option<u64>,
+    /// What `DearestGraph` and `BufferGraph` are told instead: edges, or strokes.
+    size: Option<u64>,
 }
 
 impl Call {
@@ -80,7 +81,7 @@ impl Call {
             bytes,
             session: None,
             record: None,
-            edges: None,
+            size: None,
         }
     }
 
@@ -113,13 +114,20 @@ impl Call {
 
     pub fn dearest_graph(edges: u64) -> Call {
         Call {
-            edges: Some(edges),
+            size: Some(edges),
             ..Call::on_bytes(Name::DearestGraph, Vec::new())
         }
     }
 
-    fn edges(&self) -> u64 {
-        self.edges.expect("a call with a number of edges")
+    pub fn buffer_graph(strokes: u64) -> Call {
+        Call {
+            size: Some(strokes),
+            ..Call::on_bytes(Name::BufferGraph, Vec::new())
+        }
+    }
+
+    fn size(&self) -> u64 {
+        self.size.expect("a call with a number of edges or strokes")
     }
 }
 
@@ -300,7 +308,8 @@ fn library(call: &mut Call, memory: &mut Memory) -> u64 {
             let (record, page) = (call.record(), memory.text.get_mut());
             raw::session_page(record.name(), record.verdicts(), page, answer)
         }
-        Name::DearestGraph => raw::dearest_graph(call.edges(), memory.text.get_mut(), answer),
+        Name::DearestGraph => raw::dearest_graph(call.size(), memory.text.get_mut(), answer),
+        Name::BufferGraph => raw::buffer_graph(call.size(), memory.text.get_mut(), answer),
     }
 }
 
@@ -357,7 +366,8 @@ fn reference_call(call: &Call, memory: &mut Memory) -> Result<(), Refusal> {
             let (record, page) = (call.record(), memory.text.get_mut());
             reference::session_page(record.name(), record.verdicts(), page)? as u64
         }
-        Name::DearestGraph => reference::dearest_graph(call.edges(), memory.text.get_mut())? as u64,
+        Name::DearestGraph => reference::dearest_graph(call.size(), memory.text.get_mut())? as u64,
+        Name::BufferGraph => reference::buffer_graph(call.size(), memory.text.get_mut())? as u64,
     };
     memory.answer = answer;
     Ok(())
@@ -439,10 +449,10 @@ fn told(call: &Call, tally: Tally, memory: &Memory, differences: &str) -> String
             call.name
         );
     }
-    if let Some(edges) = call.edges {
+    if let Some(size) = call.size {
         let lent = memory.text.length;
         return format!(
-            "call: {:?}\n{edges} edges, text of {lent} bytes lent\n{differences}",
+            "call: {:?}\nfor {size}, text of {lent} bytes lent\n{differences}",
             call.name
         );
     }

@@ -1,9 +1,11 @@
 //! How often each call was accepted, and refused with each number; of the graphs how often
 //! each rule chose their terminal edges, what they have of names wider than a bit, and how many
 //! without operators reach the bound of their gates; what the calls have of a second output; of
-//! packed files what they have and are refused for; and of texts in what order their gates stand.
+//! packed files what they have and are refused for; of texts in what order their gates stand; and
+//! of stroke buffers what their cycles count.
 
 use crate::compare::{Name, Outcome};
+use crate::counts::Counts;
 use crate::forms::Forms;
 use crate::kinds::Kinds;
 use crate::orders::Orders;
@@ -13,7 +15,7 @@ use std::collections::BTreeMap;
 use std::fmt;
 
 /// Every number each call can be refused with; `BrokenLine` never is.
-const REFUSALS: [(Name, &[u32]); 15] = [
+const REFUSALS: [(Name, &[u32]); 16] = [
     (Name::Build, &[1, 2, 3, 4, 5, 6, 7, 8, 9, 10, 11, 12, 19]),
     (
         Name::BuildChecked,
@@ -32,6 +34,7 @@ const REFUSALS: [(Name, &[u32]); 15] = [
     (Name::BrokenCheck, &[1, 15, 25, 26]),
     (Name::SessionPage, &[1, 12, 22]),
     (Name::DearestGraph, &[12, 24]),
+    (Name::BufferGraph, &[12, 20]),
 ];
 
 /// What a graph's first line says, and which of its edges are marked.
@@ -58,6 +61,8 @@ pub struct Coverage {
     pub forms: Forms,
     /// Texts, by the order of their gates.
     pub orders: Orders,
+    /// Runs of stroke buffers.
+    pub counts: Counts,
     /// Cycles judged by their paths, and those rejected by one; and of them those of graphs
     /// that compare names of several bits.
     path_cycles: u64,
@@ -175,6 +180,7 @@ impl Coverage {
         gaps.extend(self.stakes.gaps());
         gaps.extend(self.forms.gaps());
         gaps.extend(self.orders.gaps());
+        gaps.extend(self.counts.gaps());
         if self.path_rejected == 0 || self.path_rejected == self.path_cycles {
             gaps.push("paths".into());
         }
@@ -254,6 +260,7 @@ impl fmt::Display for Coverage {
         writeln!(f, "{}", self.stakes)?;
         writeln!(f, "{}", self.forms)?;
         writeln!(f, "{}", self.orders)?;
+        writeln!(f, "{}", self.counts)?;
         writeln!(
             f,
             "lines handed back: {} of the flywheel, {} of the handle, {} empty",

@@ -1,14 +1,16 @@
 //! Compares the proved library with the reference over seeded random and
 //! damaged inputs: returns, out-parameters and every cell of every buffer, also
 //! after refusals; the place of a line that is handed back in the caller's memory;
-//! and tallies, output words, verdict bytes and the verdicts of runs with the paths of the
-//! graph.
+//! tallies, output words, verdict bytes and the verdicts of runs with the paths of the graph;
+//! and the verdict bytes of stroke buffers with their count.
 
 mod aigers;
 mod bench;
+mod buffers;
 mod cases;
 mod checked;
 mod compare;
+mod counts;
 mod coverage;
 mod damage;
 mod forms;

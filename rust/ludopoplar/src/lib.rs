@@ -413,3 +413,39 @@ pub fn dearest_graph(edges: u64, text: &mut [u8]) -> Result<usize, Refusal> {
     Refusal::check(raw::dearest_graph(edges, text, &mut length))?;
     Ok(length as usize)
 }
+
+/// Writes the graph of a buffer of so many strokes, 1 to 40. Returns its length in bytes:
+/// 100 × strokes + 72 up to 9 strokes, 107 × strokes + 7 from 10 on, so at most 4,287.
+///
+/// An init cycle with `reset` high sets the count of strokes in the buffer to 0. In each cycle
+/// after it `empty` must be high exactly where the count before the cycle is 0, and `full`
+/// exactly where it is `strokes`; where one of them is wrong, that cycle and all later ones are
+/// rejected until the next init. Nothing is rejected before any init, nor where `reset` was low
+/// in the latest; in other cycles `reset` is not read. At 0 the count goes up with `enq` and at
+/// `strokes` down with `deq`, whatever the other is; between them it goes up with `enq` alone and
+/// down with `deq` alone.
+///
+/// `build` makes 36 × strokes + 13 gates of it, in 84 × strokes + 40 numbers. Another number of
+/// strokes is refused with 20, before 12.
+///
+/// ```
+/// let mut text = [0; 272];
+/// assert_eq!(ludopoplar::buffer_graph(2, &mut text), Ok(272));
+/// let lines = "\
+///     S reset|S enq|S deq|S empty|S full|V s|V n0|V n1|V n2|\
+///     E s n0 t reset 1|\
+///     E n0 n1 t enq empty&!full|\
+///     E n0 n0 t !enq empty&!full|\
+///     E n1 n2 t enq&!deq !empty&!full|\
+///     E n1 n0 t !enq&deq !empty&!full|\
+///     E n1 n1 t enq=deq !empty&!full|\
+///     E n2 n1 t deq !empty&full|\
+///     E n2 n2 t !deq !empty&full|";
+/// let due = lines.replace(' ', "\t").replace('|', "\n");
+/// assert_eq!(text[..], *due.as_bytes());
+/// ```
+pub fn buffer_graph(strokes: u64, text: &mut [u8]) -> Result<usize, Refusal> {
+    let mut length = 0;
+    Refusal::check(raw::buffer_graph(strokes, text, &mut length))?;
+    Ok(length as usize)
+}

@@ -176,10 +176,17 @@ mod c {
             text_len: usize,
             length: *mut u64,
         ) -> u64;
+
+        pub fn ludo_buffer_graph(
+            strokes: u64,
+            text: *mut u8,
+            text_len: usize,
+            length: *mut u64,
+        ) -> u64;
     }
 }
 
-// SAFETY, of all sixteen: every pointer comes from a reference or a slice that lives
+// SAFETY, of all seventeen: every pointer comes from a reference or a slice that lives
 // through the call, with that slice's own length; the exclusive borrows keep what
 // the library writes apart from all else; the library keeps no pointer.
 
@@ -470,4 +477,8 @@ pub fn session_page(name: &[u8], verdicts: &[u8], page: &mut [u8], length: &mut 
 
 pub fn dearest_graph(edges: u64, text: &mut [u8], length: &mut u64) -> u64 {
     unsafe { c::ludo_dearest_graph(edges, text.as_mut_ptr(), text.len(), length) }
+}
+
+pub fn buffer_graph(strokes: u64, text: &mut [u8], length: &mut u64) -> u64 {
+    unsafe { c::ludo_buffer_graph(strokes, text.as_mut_ptr(), text.len(), length) }
 }

@@ -1,6 +1,6 @@
-//! Document 01, as Nos. 1, 2, 3, 5, 7 and 10 of document 02 change it, and Nos. 8, 9, 11 and
-//! 12 of document 02, once more in plain safe Rust, written from their sentences alone; and what
-//! the program `sheet` prints.
+//! Document 01, as Nos. 1, 2, 3, 5, 7 and 10 of document 02 change it, and Nos. 6, 8, 9, 11 and
+//! 12 of document 02, once more in plain safe Rust, written from their sentences alone, No. 6
+//! also from the listing of source document 001, section 5; and what the program `sheet` prints.
 //!
 //! Nothing here is proved and nothing is meant to be fast: each module follows
 //! the documents' wording closely enough to be read beside it. The proved
@@ -40,4 +40,4 @@ pub use rate::{per_million, Rate};
 pub use refusal::{Cause, Refusal};
 pub use sheet::sheet;
 pub use simulator::{run, start, step, Tally, Verdict, Words};
-pub use texts::dearest_graph;
+pub use texts::{buffer_count_after, buffer_graph, buffer_rejects, dearest_graph};

@@ -24,6 +24,7 @@ pub enum Cause {
     TallyFull = 17,
     RunShape = 18,
     WrongWidth = 19,
+    StrokesOutOfRange = 20,
     NoRate = 21,
     NotPrintable = 22,
     WaitingGates = 23,

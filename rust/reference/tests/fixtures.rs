@@ -1,6 +1,6 @@
 //! The fixtures of the programs, most of them limit cases, hold what this implementation gives.
 
-use reference::{build, rejected_cycles, sheet, write, write_packed, Graph, Outputs};
+use reference::{buffer_graph, build, rejected_cycles, sheet, write, write_packed, Graph, Outputs};
 use std::path::Path;
 
 fn fixture(program: &str, name: &str) -> Vec<u8> {
@@ -62,4 +62,12 @@ fn sheet_of_the_longest_input() {
     let page = sheet(&input);
     assert_eq!(page.len(), 265_518);
     assert!(page == fixture("sheet", "stdout"));
+}
+
+#[test]
+fn graph_of_the_largest_buffer() {
+    assert_eq!(fixture("buffer_rule", "stdin"), b"40\n");
+    let mut text = [0; 4_287];
+    assert_eq!(buffer_graph(40, &mut text), Ok(4_287));
+    assert_eq!(text[..], fixture("buffer_rule", "stdout"));
 }

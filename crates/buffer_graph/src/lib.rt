@@ -1,6 +1,6 @@
-// The stroke buffer's graph, written into a lent buffer. Which graph it is and what it rejects stands in buffer_text; this
-// crate knows nothing of how a text is read or built. Exports that what is written is accepted, that on any trace it
-// rejects just the cycles that the buffer's count condemns, and what build makes of it: the clause `buffer` of `write`.
+// The stroke buffer's graph, written into a lent buffer. buffer_text says which graph it is and what it rejects; this crate
+// knows nothing of how a text is read or built. Exports that what is written is accepted, that on any trace it rejects just
+// the cycles that the buffer's count condemns, and what build makes of it: the clause `buffer` of `write`.
 use lines::put_graph;
 use text::Refusal;
 ghost use mathlib.Core.Path.{_≡_};

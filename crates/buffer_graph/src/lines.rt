@@ -29,7 +29,7 @@ fn put_vertices(text: &mut [u8], at: usize, counts: usize) -> usize
     p
 }
 
-// Appends the rest of an edge's line, from the number of the count it goes to on.
+// Appends the rest of an edge's line, from its target's number on.
 fn put_target(text: &mut [u8], at: usize, m: usize, labels: &[u8]) -> usize
     ensures { λ r. ⌜ Wrote (now (text .entry)) (now (text .exit)) at r
         (digits m ++ (bytes "\tt\t" ++ (now (labels .entry) ++ bytes "\n"))) ⌝ }

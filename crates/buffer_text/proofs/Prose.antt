@@ -1,5 +1,5 @@
--- The claim refuses the source's prose, by which the count goes up on `enq&!deq`: of the text for one stroke, with that label at
--- count 0, it does not hold. Assumes nothing.
+-- The claim refuses the prose's label: of the text for one stroke with `enq&!deq` for `enq` at count 0, where enq and deq
+-- together then find no edge, it does not hold. Assumes nothing.
 use mathlib.Core.Path.{_≡_, refl, sym, ap, subst, _∙_}
 use mathlib.Core.Bool.{true, false}
 use mathlib.Core.List.{List, [], _∷_}

@@ -74,7 +74,7 @@ pub record StrokeBuffer (k : ℕ) (text : Bytes) : Type 0 where
   -- "on any trace a cycle is rejected exactly when": by settings and paths, as demand 3 counts it
   pub only-when : (cs : List Cycle) → Rejected graph cs → BufferRejected k cs
   pub whenever : (cs : List Cycle) → BufferRejected k cs → Rejected graph cs
-  -- of the edges from the vertex of a count, which is n + 1 since vertex 0 is `s`, one can be taken in each cycle
+  -- from the vertex of each count n, whose place is n + 1 since that of `s` is 0, an edge can be taken in every cycle
   pub never-stuck : (n : ℕ) → n ≤ k → (c : Cycle) → any (λ e. eqb (e .from) (n + 1) && holds [] c (e .antecedent)) (graph .edges) ≡ true
   -- with checked left out, build makes 36k + 13 gates of it wherever it is lent the 84k + 40 numbers that are due; M is
   -- 42k + 23

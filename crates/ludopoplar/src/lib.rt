@@ -13,8 +13,8 @@
 // accepted call leaves and what a refused one does, the clauses `starts` of `ludo_start` and `ludo_start_checked`, `steps`
 // of `ludo_step` and `ludo_step_checked`, `runs` of `ludo_run` and `ludo_run_checked`; of the dearest graph what it costs,
 // and that no graph of as many edges without operators costs more, the clause `dearest` of `ludo_dearest_graph`; of the
-// stroke buffer's graph which cycles it rejects, the clause `buffer` of `ludo_buffer_graph`. `include/ludopoplar.h`
-// declares these functions to C.
+// stroke buffer's graph which cycles it rejects and what build makes of it, the clause `buffer` of `ludo_buffer_graph`.
+// `include/ludopoplar.h` declares these functions to C.
 mod checked;
 mod graphs;
 

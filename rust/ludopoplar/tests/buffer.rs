@@ -244,8 +244,8 @@ impl Buffer {
     }
 }
 
-/// Init and reset are random too. For each number of strokes cycles of each kind that is counted
-/// are met with both verdicts.
+/// Init and reset are random too. For each number of strokes, each kind that `random_trace` counts
+/// must be met both accepted and rejected.
 #[test]
 fn random_traces() {
     for strokes in 1..=40 {

@@ -1,10 +1,12 @@
 -- How long the text is, and what write answers and leaves in each of its three cases, in digits. Assumes nothing.
 use mathlib.Core.Path.{_≡_, refl}
-use mathlib.Core.Bool.{Bool, true, false, cond, _&&_}
+use mathlib.Core.Bool.{Bool, true, false, cond}
 use mathlib.Core.List.{List, _++_}
 use Prim.Native.Nat.{ℕ, _+_, _*_, _<_, _≤_}
-use borrow.Author.Tests.{le-leb, lt-leb, leb-true, ltb-true, ltb-false}
-use lib.Dec.{leb, ltb}
+use native.Mathlib.Omega.{arith}
+use native.Mathlib.Decide.{decLt}
+use borrow.Author.Tests.{le-leb, lt-leb, ltb-true, ltb-false}
+use lib.Dec.{ltb}
 use lib.ListN.{length, drop}
 use Rattle.buffer_text.specs.Text.{bufferText}
 use Rattle.buffer_text.proofs.SizeLaws.{size-small, size-large}
@@ -26,12 +28,10 @@ bytes-due k some few = by (ltb k 10) refl
 module _ (strokes : ℕ) (text : List ℕ) where
   not-inside : (1 ≤ strokes → strokes ≤ 40 → ⊥) → isInside strokes ≡ false
   unfolding isInside
-  not-inside h = by (leb 1 strokes) (leb strokes 40) refl refl
-    where
-      by : (a b : Bool) → leb 1 strokes ≡ a → leb strokes 40 ≡ b → (a && b) ≡ false
-      by true true d e = absurd (h (leb-true 1 strokes d) (leb-true strokes 40 e))
-      by true false d e = refl
-      by false b d e = refl
+  not-inside h = elim (decLt 0 strokes) [
+    | yes s ↦ rw (le-leb 1 strokes s, lt-leb strokes 40 (omega (arith, h s)))
+    | no s ↦ rw (lt-leb 1 strokes (omega (arith, s)))
+  ]
 
   pub outside : (1 ≤ strokes → strokes ≤ 40 → ⊥) → writeOf strokes text ≡ writeEnd (Refused StrokesOutside) text
   unfolding writeOf

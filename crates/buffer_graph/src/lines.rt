@@ -83,7 +83,7 @@ fn put_counts(text: &mut [u8], at: usize, k: usize, counts: usize) -> usize
 }
 
 // Writes the text of the graph for k strokes.
-pub fn put_graph(text: &mut [u8], k: usize) -> usize
+pub(crate) fn put_graph(text: &mut [u8], k: usize) -> usize
     requires { ⌜ (1 ≤ k) × (k ≤ 40) ⌝ }
     ensures { λ r. ⌜ Wrote (now (text .entry)) (now (text .exit)) 0 r (bufferText k) ⌝ }
 {

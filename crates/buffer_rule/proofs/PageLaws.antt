@@ -5,7 +5,6 @@ use mathlib.Core.Bool.{Bool, true, false}
 use mathlib.Core.List.{List, _++_}
 use Prim.Native.Nat.{ℕ, _≤_}
 use native.Mathlib.Nat.{zero-add}
-use native.Mathlib.Decide.{decLt}
 use native.Mathlib.Omega.{arith}
 use borrow.Author.Tests.{leb-true, le-leb}
 use lib.Dec.{leb}
@@ -18,7 +17,7 @@ use Rattle.text.proofs.NumberLaws.{and-both}
 use Rattle.text.proofs.WriterLaws.{fits}
 use Rattle.page_text.specs.Lines.{field, refusedLine}
 use Rattle.buffer_text.specs.Text.{bufferText}
-use Rattle.buffer_text.proofs.SizeLaws.{size-small, size-large}
+use Rattle.buffer_text.proofs.SizeLaws.{size-most}
 use Rattle.buffer_graph.specs.declared.Cause.{Cause}
 use Rattle.buffer_graph.specs.declared.Cause.the-variants.{StrokesOutside}
 use Rattle.buffer_graph.specs.declared.Written.{Written}
@@ -28,13 +27,7 @@ use Rattle.buffer_rule.specs.Page.{strokesPage}
 
 text-fits : (k : ℕ) → isInside k ≡ true → length (bufferText k) ≤ 4287
 unfolding isInside
-text-fits k h =
-    let both = and-both (leb 1 k) (leb k 40) h in
-    let few : k ≤ 40 = leb-true k 40 (both .1) in
-    elim (decLt k 10) [
-      | yes l ↦ omega (arith, size-small k (leb-true 1 k (both .0)) l)
-      | no l ↦ omega (arith, size-large k (omega arith) few)
-    ]
+text-fits k h = let both = and-both (leb 1 k) (leb k 40) h in size-most k (leb-true 1 k (both .0)) (leb-true k 40 (both .1))
 
 line-size : length (refusedLine (refusalOf StrokesOutside)) ≡ 13
 unfolding refusedLine field digits digitsOf refusalOf

@@ -38,11 +38,16 @@ goes-between true false m n l = (λ t. refl, λ t. absurd t, λ t. absurd t)
 goes-between false true m n l = (λ t. absurd t, λ t. refl, λ t. absurd t)
 goes-between false false m n l = (λ t. absurd t, λ t. absurd t, λ t. refl)
 
-some-between : (x y : Bool) → (x && not y) || ((not x && y) || Bool·beq x y) ≡ true
-some-between true true = refl
-some-between true false = refl
-some-between false true = refl
-some-between false false = refl
+-- one of the antecedents holds: of two edges, and of three
+some-of-two : (x : Bool) → T (x || (not x || false))
+some-of-two true = tt
+some-of-two false = tt
+
+some-of-three : (x y : Bool) → T ((x && not y) || ((not x && y) || (Bool·beq x y || false)))
+some-of-three true true = tt
+some-of-three true false = tt
+some-of-three false true = tt
+some-of-three false false = tt
 
 -- a flag, as a consequent has it and as the claim has it
 flag : (z a : Bool) → cond z a (not a) ≡ Bool·beq a z
@@ -61,7 +66,7 @@ can-move k n c = by (eqb n 0) (eqb n k) refl refl
     by : (z w : Bool) → eqb n 0 ≡ z → eqb n k ≡ w → canMove k n c ≡ true
     by true w a b = rw a (or-not-self (isEnq c))
     by false true a b = rw (a, b) (or-not-self (isDeq c))
-    by false false a b = rw (a, b) (some-between (isEnq c) (isDeq c))
+    by false false a b = rw (a, b) (is-true _ (rw (or-false (Bool·beq (isEnq c) (isDeq c))) at (some-of-three (isEnq c) (isDeq c))))
 
 moves-from : (k n : ℕ) (w : List Cycle) → movesFrom k n w ≡ true
 moves-from k n [] = refl
@@ -91,6 +96,16 @@ Told σ c k n m wrong e =
     × (T (holds σ c (e .antecedent)) → (e .to ≡ suc m) × (not (holds σ c (e .consequent)) ≡ wrong))
 
 module _ (k : ℕ) (h : 1 ≤ k) where
+  -- ---- in each cycle an edge of count n may be taken
+  taken : (n : ℕ) (c : Cycle) → (e : Edge) × List·Memᴰ e (edgesAt k n) × T (holds [] c (e .antecedent))
+  unfolding holds
+  taken n c = any-elim (λ (e : Edge). holds [] c (e .antecedent)) (edgesAt k n) (by (eqb n 0) (eqb n k) refl refl)
+    where
+      by : (z w : Bool) → eqb n 0 ≡ z → eqb n k ≡ w → T (any (λ (e : Edge). holds [] c (e .antecedent)) (edgesAt k n))
+      by true w a b = rw a (some-of-two (isEnq c))
+      by false true a b = rw (a, b) (some-of-two (isDeq c))
+      by false false a b = rw (a, b) (some-of-three (isEnq c) (isDeq c))
+
   told : (σ : Setting) (c : Cycle) (n : ℕ) {e : Edge} → List·Memᴰ e (edgesAt k n) → Told σ c k n (countAfter k n c) (flagsWrong k n c) e
   unfolding holds
   told σ c n m = among (Told σ c k n (countAfter k n c) (flagsWrong k n c)) (by (eqb n 0) (eqb n k) refl refl) m
@@ -147,15 +162,6 @@ module _ (k : ℕ) (h : 1 ≤ k) where
       ap₂ _||_ (s .1) (follow σ w p (countAfter k n c) (f .1) (omega arith) next (and-right (holds σ c (e .antecedent)) _ a))
 
   -- ---- a path that meets all antecedents
-  taken : (n : ℕ) (c : Cycle) → (e : Edge) × List·Memᴰ e (edgesAt k n) × T (holds [] c (e .antecedent))
-  unfolding holds
-  taken n c = any-elim (λ (e : Edge). holds [] c (e .antecedent)) (edgesAt k n) (by (eqb n 0) (eqb n k) refl refl)
-    where
-      by : (z w : Bool) → eqb n 0 ≡ z → eqb n k ≡ w → T (any (λ (e : Edge). holds [] c (e .antecedent)) (edgesAt k n))
-      by true w a b = rw (a, or-false (not (isEnq c)), or-not-self (isEnq c)) tt
-      by false true a b = rw (a, b, or-false (not (isDeq c)), or-not-self (isDeq c)) tt
-      by false false a b = rw (a, b, or-false (Bool·beq (isEnq c) (isDeq c)), some-between (isEnq c) (isDeq c)) tt
-
   pub never-stuck : (n : ℕ) → n ≤ k → (c : Cycle) → any (λ (e : Edge). eqb (e .from) (n + 1) && holds [] c (e .antecedent)) (bufferGraph k .edges) ≡ true
   never-stuck n l c =
       let x = taken n c in

@@ -4,7 +4,7 @@ use mathlib.Core.Path.{_≡_, refl, ap, _∙_}
 use mathlib.Core.List.{[], _∷_, _++_}
 use native.Mathlib.Numerals.{add-one}
 use native.Mathlib.Omega.{arith}
-use native.Mathlib.Decide.{ℕ-discrete}
+use native.Mathlib.Decide.{ℕ-discrete, decLt}
 use borrow.Author.Tests.{eq-eqb, ne-eqb}
 use lib.ListN.{length, length-append}
 use Rattle.text.specs.Quoted.{bytes}
@@ -194,3 +194,7 @@ size-large (suc m) h l = elim (ℕ-discrete m 9) [
         two-digits (suc m - 1) (omega (arith, d)) (omega arith),
       )
 ]
+
+-- at most that of 40 strokes
+pub size-most : (k : ℕ) → 1 ≤ k → k ≤ 40 → length (bufferText k) ≤ 4287
+size-most k h l = elim (decLt k 10) [ yes s ↦ omega (arith, size-small k h s) | no s ↦ omega (arith, size-large k (omega (arith, s)) l) ]

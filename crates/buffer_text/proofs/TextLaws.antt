@@ -5,7 +5,7 @@ use mathlib.Core.Bool.{Bool, true, false}
 use mathlib.Core.List.{List, [], _∷_, _++_, map, map-append, append-assoc, List·Memᴰ}
 use native.Mathlib.Numerals.{add-one}
 use native.Mathlib.Omega.{arith}
-use native.Mathlib.Decide.{ℕ-discrete, decLt}
+use native.Mathlib.Decide.{ℕ-discrete}
 use borrow.Author.Tests.{le-leb, lt-leb, eqb-false}
 use lib.Dec.{eqb, lit≤}
 use lib.ListN.{length, getD, length-append, List·getD-append}
@@ -30,7 +30,7 @@ use Rattle.graph_print.proofs.ReadLaws.{lines-append}
 use Rattle.graph_print.proofs.PrintLaws.{printed}
 use Rattle.buffer_text.specs.Text.{heading, vertexLine, startLine, edgeLine, countLines, bufferText}
 use Rattle.buffer_text.proofs.Graph.{Spelled, reset, enq, deq, empty, full, always, off, both, alike, noneFlags, allFlags, someFlags, counting, edgesOf, edgesAt, edgesBelow, start, countName, namesBelow, bufferGraph}
-use Rattle.buffer_text.proofs.SizeLaws.{size-small, size-large}
+use Rattle.buffer_text.proofs.SizeLaws.{size-most}
 
 -- ---- the vertices' names
 digit-in-name : (b : ℕ) → isDigit b ≡ true → inName b ≡ true
@@ -223,9 +223,6 @@ module _ (k : ℕ) where
       ∙ ap (λ (s : Bytes). heading ++ s) (lines-append names edges ∙ ap₂ _++_ (vertices-text (suc k)) (edges-print h .lines))
       ∙ rw (add-one k)
 
-  short : 1 ≤ k → k ≤ 40 → length (bufferText k) ≤ 32768
-  short h l = elim (decLt k 10) [ yes s ↦ omega (arith, size-small k h s) | no s ↦ omega (arith, size-large k (omega (arith, s)) l) ]
-
   -- ---- so it is read as the graph
   edges-few : (m : ℕ) → length (edgesBelow k m) ≤ 3 * m
   edges-few zero = omega arith
@@ -254,7 +251,7 @@ module _ (k : ℕ) where
         vertices-few = omega (arith, vertices-length);
         edges-few = omega (arith, edges-few (suc k));
         edges = edges-print h .fine;
-        short = subst (λ (s : Bytes). length s ≤ 32768) (sym (text-is h)) (short h l);
+        short = subst (λ (s : Bytes). length s ≤ 32768) (sym (text-is h)) (omega (arith, size-most k h l));
       }
 
   pub graph : 1 ≤ k → k ≤ 40 → graphOf (bufferText k) ≡ accepted (bufferGraph k)

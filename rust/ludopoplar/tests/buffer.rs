@@ -1,35 +1,21 @@
 //! Document 02, No. 6: the stroke buffer's graph, through the C interface, and the cycles that it
 //! rejects.
 
+mod common;
+
 /// What the comparison draws from.
 #[allow(dead_code)]
 #[path = "../../differential/src/random.rs"]
 mod random;
 
+use common::{Writer, TOO_SHORT};
 use ludopoplar::{buffer_graph, build, raw, run, start, Refusal, Tally, Verdict};
 use random::Random;
 
-const TOO_SHORT: Refusal = Refusal {
-    number: 12,
-    line: 0,
+const WRITER: Writer = Writer {
+    call: buffer_graph,
+    raw: raw::buffer_graph,
 };
-
-/// Makes both calls on a buffer of this length: what they answer, and what is in the buffer then.
-/// A refused one leaves the length as it was, too.
-fn written(strokes: u64, lent: usize) -> (Result<usize, Refusal>, Vec<u8>) {
-    let mut text = vec![b'#'; lent];
-    let answer = buffer_graph(strokes, &mut text);
-    let (mut again, mut length) = (vec![b'#'; lent], 77);
-    let code = raw::buffer_graph(strokes, &mut again, &mut length);
-    assert_eq!(
-        Refusal::check(code),
-        answer.map(|_| ()),
-        "{strokes}, {lent}"
-    );
-    assert_eq!(length, answer.unwrap_or(77) as u64, "{strokes}, {lent}");
-    assert_eq!(again, text, "{strokes}, {lent}");
-    (answer, text)
-}
 
 /// The text that is due, by the request's sentences and the listing of source 001.
 fn due_text(strokes: u64) -> Vec<u8> {
@@ -65,7 +51,7 @@ fn worked_cases() {
         (39, 4_180, 119, 41, 1_417, 1_661, 3_316),
         (40, 4_287, 122, 42, 1_453, 1_703, 3_400),
     ] {
-        let (answer, text) = written(strokes, bytes);
+        let (answer, text) = WRITER.written(strokes, bytes);
         assert_eq!(answer, Ok(bytes));
         let lines = |kind: u8| {
             let lines = text.split(|byte| *byte == b'\n');
@@ -80,7 +66,7 @@ fn worked_cases() {
         E\ts\tn0\tt\treset\t1\n\
         E\tn0\tn1\tt\tenq\tempty&!full\nE\tn0\tn0\tt\t!enq\tempty&!full\n\
         E\tn1\tn0\tt\tdeq\t!empty&full\nE\tn1\tn1\tt\t!deq\t!empty&full\n";
-    assert_eq!(written(1, 172).1, one.as_bytes());
+    assert_eq!(WRITER.written(1, 172).1, one.as_bytes());
 }
 
 /// Into a buffer of just its length and into longer ones, whose surplus stays; a byte less is too
@@ -97,13 +83,13 @@ fn each_number_of_strokes() {
         for surplus in [0, 1, 50] {
             let filled = [&due[..], &vec![b'#'; surplus]].concat();
             assert_eq!(
-                written(strokes as u64, bytes + surplus),
+                WRITER.written(strokes as u64, bytes + surplus),
                 (Ok(bytes), filled)
             );
         }
         for lent in [0, 1, 40, bytes - 17, bytes - 1] {
             let answer = (Err(TOO_SHORT), vec![b'#'; lent]);
-            assert_eq!(written(strokes as u64, lent), answer);
+            assert_eq!(WRITER.written(strokes as u64, lent), answer);
         }
         let (gates, numbers) = (36 * strokes + 13, 84 * strokes + 40);
         let mut net = vec![9; numbers];
@@ -123,22 +109,7 @@ fn numbers_outside() {
         number: 20,
         line: 0,
     };
-    for strokes in [
-        0,
-        41,
-        42,
-        1 << 8,
-        (1 << 8) + 1,
-        1 << 32,
-        (1 << 32) + 1,
-        1 << 63,
-        u64::MAX,
-    ] {
-        for lent in [0, 1, 171, 172, 4_286, 4_287, 4_394, 6_000] {
-            let answer = (Err(refused), vec![b'#'; lent]);
-            assert_eq!(written(strokes, lent), answer);
-        }
-    }
+    WRITER.refuses_outside(40, refused, &[0, 1, 171, 172, 4_286, 4_287, 4_394, 6_000]);
 }
 
 /// The verdict bytes of a run of the graph's netlist from its start on.

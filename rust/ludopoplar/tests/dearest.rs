@@ -1,31 +1,21 @@
 //! Document 02, No. 11: the dearest graph, through the C interface; and the bound of 10E − 2 gates
 //! on graphs without operators.
 
+mod common;
+
 /// What the comparison draws from.
 #[allow(dead_code)]
 #[path = "../../differential/src/random.rs"]
 mod random;
 
+use common::{Writer, TOO_SHORT};
 use ludopoplar::{build, dearest_graph, raw, Refusal, LONGEST_NETLIST};
 use random::Random;
 
-const TOO_SHORT: Refusal = Refusal {
-    number: 12,
-    line: 0,
+const WRITER: Writer = Writer {
+    call: dearest_graph,
+    raw: raw::dearest_graph,
 };
-
-/// Makes both calls on a buffer of this length: what they answer, and what is in the buffer then.
-/// A refused one leaves the length as it was, too.
-fn written(edges: u64, lent: usize) -> (Result<usize, Refusal>, Vec<u8>) {
-    let mut text = vec![b'#'; lent];
-    let answer = dearest_graph(edges, &mut text);
-    let (mut again, mut length) = (vec![b'#'; lent], 77);
-    let code = raw::dearest_graph(edges, &mut again, &mut length);
-    assert_eq!(Refusal::check(code), answer.map(|_| ()), "{edges}, {lent}");
-    assert_eq!(length, answer.unwrap_or(77) as u64, "{edges}, {lent}");
-    assert_eq!(again, text, "{edges}, {lent}");
-    (answer, text)
-}
 
 /// Edges, bytes, gates and M.
 #[test]
@@ -36,13 +26,13 @@ fn worked_cases() {
         (3, 40, 28, 35),
         (128, 1_540, 1_278, 1_535),
     ] {
-        let (answer, text) = written(edges, bytes);
+        let (answer, text) = WRITER.written(edges, bytes);
         assert_eq!(answer, Ok(bytes));
         let mut net = [0; LONGEST_NETLIST];
         assert_eq!(build(&text, &mut net), Ok(gates));
         assert_eq!(net[0], variables);
     }
-    let (_, text) = written(2, 28);
+    let (_, text) = WRITER.written(2, 28);
     assert_eq!(text, b"V\ta\nE\ta\ta\tt\t1\t1\nE\ta\ta\tt\t1\t1\n");
 }
 
@@ -56,11 +46,11 @@ fn each_number_of_edges() {
         for surplus in [0, 1, 50] {
             let filled = [&due[..], &vec![b'#'; surplus]].concat();
             let answer = (Ok(due.len()), filled);
-            assert_eq!(written(edges as u64, due.len() + surplus), answer);
+            assert_eq!(WRITER.written(edges as u64, due.len() + surplus), answer);
         }
         for lent in [0, 4, due.len() - 1] {
             let answer = (Err(TOO_SHORT), vec![b'#'; lent]);
-            assert_eq!(written(edges as u64, lent), answer);
+            assert_eq!(WRITER.written(edges as u64, lent), answer);
         }
         let (gates, numbers) = (10 * edges - 2, 24 * edges + 2);
         let mut net = vec![9; numbers];
@@ -80,22 +70,7 @@ fn numbers_outside() {
         number: 24,
         line: 0,
     };
-    for edges in [
-        0,
-        129,
-        130,
-        1 << 8,
-        (1 << 8) + 1,
-        1 << 32,
-        (1 << 32) + 1,
-        1 << 63,
-        u64::MAX,
-    ] {
-        for lent in [0, 4, 15, 16, 1_540, 1_552, 4_000] {
-            let answer = (Err(refused), vec![b'#'; lent]);
-            assert_eq!(written(edges, lent), answer);
-        }
-    }
+    WRITER.refuses_outside(128, refused, &[0, 4, 15, 16, 1_540, 1_552, 4_000]);
 }
 
 /// Graphs without operators, their gates and the bound.

@@ -2,7 +2,7 @@
    rejected first, where it lies in the caller's own bytes. One line of output a session; small ones, the
    largest, and one for each way to be refused. At the repository's root:
 
-     cc -std=c99 -Iinclude -o broken examples/broken.c target/staticlib/libludopoplar.a && ./broken */
+     cc -std=c99 -Iinclude -o broken examples/broken.c crates/ludopoplar/out/libludopoplar.a && ./broken */
 #include <inttypes.h>
 #include <stdio.h>
 #include <string.h>

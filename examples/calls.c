@@ -2,7 +2,7 @@
    trace on it, tells its rejections in a million, shows what a graph without marks means, signals of several
    wires, and two refusals. At the repository's root:
 
-     cc -std=c99 -Iinclude -o calls examples/calls.c target/staticlib/libludopoplar.a && ./calls */
+     cc -std=c99 -Iinclude -o calls examples/calls.c crates/ludopoplar/out/libludopoplar.a && ./calls */
 #include <inttypes.h>
 #include <stdio.h>
 #include <string.h>

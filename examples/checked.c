@@ -2,7 +2,7 @@
    circuit's file, the words of a step with a constant, a circuit of one output, and two refusals. At the
    repository's root:
 
-     cc -std=c99 -Iinclude -o checked examples/checked.c target/staticlib/libludopoplar.a && ./checked */
+     cc -std=c99 -Iinclude -o checked examples/checked.c crates/ludopoplar/out/libludopoplar.a && ./checked */
 #include <inttypes.h>
 #include <stdio.h>
 #include <string.h>

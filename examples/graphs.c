@@ -7,7 +7,7 @@
    A buffer of strokes: the sizes of its graph for some numbers of strokes; the text of two; what the call leaves in a
    longer buffer, and where it is refused; and two runs over a buffer of two. At the repository's root:
 
-     cc -std=c99 -Iinclude -o graphs examples/graphs.c target/staticlib/libludopoplar.a && ./graphs */
+     cc -std=c99 -Iinclude -o graphs examples/graphs.c crates/ludopoplar/out/libludopoplar.a && ./graphs */
 #include <inttypes.h>
 #include <stdio.h>
 #include <string.h>

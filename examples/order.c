@@ -1,7 +1,7 @@
 /* Gates in any order, from C: reads AIGER texts whose gates another tool left in no order, shows the numbers of the
    netlist and its file as it is written back; then files that are refused. At the repository's root:
 
-     cc -std=c99 -Iinclude -o order examples/order.c target/staticlib/libludopoplar.a && ./order */
+     cc -std=c99 -Iinclude -o order examples/order.c crates/ludopoplar/out/libludopoplar.a && ./order */
 #include <inttypes.h>
 #include <stdio.h>
 #include <string.h>

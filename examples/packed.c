@@ -2,7 +2,7 @@
    back and compares the numbers with those of the text form; the same with two outputs; what is refused in a
    packed file, in a line or among the bytes; and a buffer that is too short. At the repository's root:
 
-     cc -std=c99 -Iinclude -o packed examples/packed.c target/staticlib/libludopoplar.a && ./packed */
+     cc -std=c99 -Iinclude -o packed examples/packed.c crates/ludopoplar/out/libludopoplar.a && ./packed */
 #include <inttypes.h>
 #include <stdio.h>
 #include <string.h>

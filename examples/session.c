@@ -2,7 +2,7 @@
    the longest, and one line for each way to be refused. Each line of a page stands between bars; of a page of
    more than four lines the first and the last two are shown. At the repository's root:
 
-     cc -std=c99 -Iinclude -o session examples/session.c target/staticlib/libludopoplar.a && ./session */
+     cc -std=c99 -Iinclude -o session examples/session.c crates/ludopoplar/out/libludopoplar.a && ./session */
 #include <inttypes.h>
 #include <stdio.h>
 #include <string.h>

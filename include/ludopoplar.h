@@ -1,10 +1,11 @@
 /* Ludopoplar: monitor circuits of assertion graphs. Builds the circuit of a graph text, writes and reads
    circuits as AIGER files, runs them cycle by cycle, counts the cycles in which a rule was at stake, tells
    rejections in a million cycles, finds the line that was rejected first in the two traces of a session, lays
-   the verdicts of a run out as a page for the wall, and writes the dearest graph of so many edges, from which a
-   gate array is sized, and the graph of a buffer of so many strokes.
+   the verdicts of a run out as a page for the wall, writes the dearest graph of so many edges, from which a gate
+   array is sized, and the graph of a buffer of so many strokes, and serves eight circuits in turn, each with a
+   queue of cycles.
 
-   Link with libludopoplar.a (x86-64 Linux). It needs memcpy and memset of the C library and nothing else.
+   Link with libludopoplar.a (x86-64 Linux). It needs memcpy, memmove and memset of the C library and nothing else.
 
    Memory
      The library keeps nothing, allocates nothing and has no state: all memory is the caller's, and is used
@@ -41,9 +42,11 @@
        14     its    AIGER: line of right shape that breaks order or limits; a gate of the ASCII form may stand
                      anywhere among the gates, but its variable must be a gate's, and defined once
        14     0      packed AIGER: difference that gives no allowed operand
-       15     its    trace: wrong line, counted in its own trace; a step's cycle is line 1
-       16     0      the numbers are no netlist
-       17     0      a number of the tally would pass 4,294,967,295 if each new cycle were added to it
+       15     its    trace: wrong line, counted in its own trace; a step's cycle, and a bench's, is line 1
+       16     0      the numbers are no netlist; bench: in one of the eight places the numbers are no netlist, more
+                     than 16 cycles wait or a waiting cycle is wrong; or the machine served last is above 7
+       17     0      a number of the tally would pass 4,294,967,295 if each new cycle were added to it, and on a
+                     bench each waiting cycle of the machine too
        18     0      packed AIGER: byte run that is missing, over three bytes, unfinished or not shortest, or
                      bytes after the last gate
        19     its    graph: in a formula, names of unequal widths compared, a bit beyond the width, or a name of
@@ -55,14 +58,17 @@
        24     0      dearest graph: number of edges outside 1 to 128
        25     0      verdicts: not one byte for each line of their trace, or a byte above 1
        26     0      width of lines outside 1 to 64
+       27     0      bench: machine number above 7
+       28     0      bench: 16 cycles wait for the machine already
 
      Lines count from 1; the first faulty line decides, and in it the lower number, also where an edge's two
      formulas have one each. Build checks 1, the lines, 10, 11, 12; read 1, the lines, missing and extra ones
      among them, then of a packed file its byte runs in order, each for 18 before 14, and 18 for what follows
      them, of an ASCII file 23, then 12; write, packed write and start 16, 12; step 16, 15, 12, 17; run 1, then
      as step; per million 21; broken check 1 of either trace, 26, 15 of the flywheel trace, 15 of the handle
-     trace, 25; session page 1, 22, 12; dearest graph 24, 12; stroke buffer's graph 20, 12. A call whose name ends
-     in _checked checks what the one without it checks, in the same order.
+     trace, 25; session page 1, 22, 12; dearest graph 24, 12; stroke buffer's graph 20, 12; a new cycle of a bench
+     27, 16, 28, 15, 12, 17; a turn of a bench 16, 12, 17. A call whose name ends in _checked checks what the one
+     without it checks, in the same order.
 
    Netlist: uint16_t numbers, 5 + 2L + O + 2A of them, at most 8,195
      M I L O A               highest variable, inputs, latches, outputs, AND gates
@@ -260,6 +266,108 @@ uint64_t ludo_dearest_graph(uint64_t edges, uint8_t *text, size_t text_len, uint
 
    ludo_build makes 36 * strokes + 13 gates of it, in a netlist of 84 * strokes + 40 numbers. */
 uint64_t ludo_buffer_graph(uint64_t strokes, uint8_t *text, size_t text_len, uint64_t *length);
+
+/* Eight machines on one bench: ludo_bench_add puts a cycle into the queue of one machine, and ludo_bench_turn steps
+   the next machine, in round order, that has a cycle waiting.
+
+   A bench has eight places, 0 to 7. Machine k has place k: a netlist, latch words, a tally and a queue of at most 16
+   waiting cycles. The caller lends all of this in five buffers. Declared like this they are long enough for every
+   netlist:
+
+     uint16_t nets[8][8195];          nets[k]      the netlist; numbers behind it are not looked at
+     uint64_t latches[8][4094];       latches[k]   the L latch words; words behind them stay as they are
+     uint8_t queues[8][16][64];       queues[k]    16 slots of 64 bytes
+     ludo_bench b = {.last = 7};      b.place[k]   how many cycles wait, and the three numbers of the tally
+     uint64_t values[4096];           values       M + 1 words, the same for all machines; only a turn needs them
+
+   They are lent as nets[0], 8 * 8195; latches[0], 8 * 4094; queues[0][0], 8 * 16 * 64; (uint32_t *)&b, 33; and
+   values, 4096. The second bounds may be smaller: the library cuts each of `nets`, `latches` and `queues` into eight
+   equal parts of len / 8 elements, rounded down, and part k is machine k's. It neither reads nor writes what is
+   behind the eighth part. A part of `nets` must hold its netlist, a part of `latches` the L words of that netlist; a
+   part of `queues` holds as many waiting cycles as it has whole slots, at most 16.
+
+   In a queue the oldest cycle is in slot 0, the next in slot 1 and so on. A cycle is the first I bytes of its slot;
+   the other bytes of the slot, and all slots behind the waiting cycles, may hold anything. With n cycles waiting:
+
+     byte      0             64            128     ..     64 * (n - 1)      64 * n
+     slot      0: oldest     1             2       ..     n - 1: newest     n: a new cycle goes here
+
+   The numbers of the bench, in the order of ludo_bench:
+
+     number    0        1       2         3         4 to 7     ..     28 to 31     32
+               waiting  cycles  rejected  checked   place 1    ..     place 7      last: the machine served last
+               ------------- place 0 ------------
+
+   To begin, set waiting to 0 in each place and last to 7, and build and start each place:
+
+     ludo_build_checked(graph, graph_len, nets[k], 8195, &gates)
+     ludo_start_checked(nets[k], 8195, latches[k], 4094,
+                        &b.place[k].cycles, &b.place[k].rejected, &b.place[k].checked)
+
+   The first round then begins with machine 0. If the bench is all zeros, last is 0: the first round begins with
+   machine 1 and ends with machine 0, and all else is the same. A place without a machine needs all of this too: give
+   it any netlist, such as the one that ludo_build makes of "V\ta\n", start it, and add no cycle for it.
+
+   Each call tests all eight places, whichever machine it is about.
+
+   The following is proved of eight places that were started with empty queues, as long as only these two calls write
+   to `latches`, `queues` and `bench` and the netlists stay as they are, whichever calls are made or refused:
+     - A machine with a cycle waiting is served within eight accepted turns, whatever is added for the others.
+     - Each queue is served in the order in which its cycles were added.
+     - A machine's tally counts its own served cycles only, in that order, since its start. If ludo_build_checked made
+       its netlist, cycles is their number, rejected the number of those that break the rule, and checked the number
+       of those in which the rule was at stake.
+     - ludo_bench_add is never refused with 16, and ludo_bench_turn only with 12, for too few `values`. */
+typedef struct {
+    uint32_t waiting, cycles, rejected, checked;
+} ludo_place;
+typedef struct {
+    ludo_place place[8];
+    uint32_t last;
+} ludo_bench;
+
+/* Compiles only if a ludo_bench is 33 numbers without a gap. */
+typedef char ludo_bench_is_33_numbers[sizeof(ludo_bench) == 33 * sizeof(uint32_t) ? 1 : -1];
+
+/* Adds a cycle to the queue of a machine, 0 to 7. `cycle` is exactly I bytes, '0' or '1', one for each input of the
+   machine's netlist. Writes them into the first slot behind the waiting cycles, and adds 1 to waiting. Nothing else
+   changes.
+
+   Refused with the first of these that applies:
+     27             `machine` is above 7
+     16             the bench is none: in any of the eight places the numbers are no netlist, more than 16 cycles wait,
+                    the part of `queues` has fewer whole slots than cycles wait, or a waiting cycle has a byte other
+                    than '0' or '1'; or last is above 7; or `bench` has fewer than 33 numbers
+     28             16 cycles wait for the machine already
+     15, line 1     `cycle` is not I bytes '0' or '1'
+     12             the machine's part of `latches` has fewer than L words, or its part of `queues` no whole slot left
+     17             a number of the machine's tally, with the waiting cycles and this one added, would pass
+                    4,294,967,295
+   A refusal leaves every buffer as it was. */
+uint64_t ludo_bench_add(const uint16_t *nets, size_t nets_len, const uint64_t *latches, size_t latches_len,
+                        uint8_t *queues, size_t queues_len, uint32_t *bench, size_t bench_len,
+                        uint32_t machine, const uint8_t *cycle, size_t cycle_len);
+
+/* Takes a turn. The round goes from the machine after last up to 7, then from 0 up to last; the first machine in it
+   that has a cycle waiting is served. The call steps that machine with its oldest cycle, as ludo_step_checked does:
+   it moves the machine's latch words, fills the first M + 1 words of `values` and adds the cycle to the machine's
+   tally. The cycles that wait behind it move one slot forward; the bytes of the freed slot stay. waiting is then 1
+   less, and last is this machine. `*served` is the machine, `*word` the word of its first output and `*checked_word`
+   that of its second, 0 if it has one output.
+
+   If no cycle waits for any machine, the turn is idle: it is accepted, `*served` is 8, and nothing else changes;
+   `*word`, `*checked_word` and last stay as they were.
+
+   Refused with the first of these that applies:
+     16             as in ludo_bench_add, also where the turn would be idle
+     12             for the machine to be served `latches` has fewer than L words in its part, or `values` has fewer
+                    than M + 1
+     17             a number of that machine's tally is 4,294,967,295
+   A refusal leaves every buffer and result as it was, so the same machine is next again: if `values` is too short
+   for it, no machine is served until a longer buffer is lent. */
+uint64_t ludo_bench_turn(const uint16_t *nets, size_t nets_len, uint64_t *latches, size_t latches_len, uint64_t *values, size_t values_len,
+                         uint8_t *queues, size_t queues_len, uint32_t *bench, size_t bench_len,
+                         uint64_t *served, uint64_t *word, uint64_t *checked_word);
 
 #ifdef __cplusplus
 }

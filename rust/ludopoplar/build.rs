@@ -12,7 +12,7 @@ fn main() {
     println!("cargo:rerun-if-changed={}", archive.display());
     if !archive.is_file() {
         eprintln!(
-            "error: {} is missing: run `rt staticlib ludopoplar` in the repository's root first, \
+            "error: {} is missing: run `rt lib` in the repository's crates/ludopoplar first, \
              or set {DIRECTORY_VARIABLE} to the directory that holds libludopoplar.a",
             archive.display()
         );
@@ -22,11 +22,11 @@ fn main() {
     println!("cargo:rustc-link-lib=static=ludopoplar");
 }
 
-/// The variable's directory, else `target/staticlib` beside the workspace.
+/// The variable's directory, else where `rt lib` puts the archive.
 fn library_directory() -> PathBuf {
     if let Some(directory) = env::var_os(DIRECTORY_VARIABLE) {
         return PathBuf::from(directory);
     }
     let member = env::var_os("CARGO_MANIFEST_DIR").expect("cargo sets CARGO_MANIFEST_DIR");
-    Path::new(&member).join("../../target/staticlib")
+    Path::new(&member).join("../../crates/ludopoplar/out")
 }

@@ -2,6 +2,8 @@
 // lines that the binary format has too. Knows nothing of graphs.
 // Exports that a netlist is written exactly where there is room for its file, that no file has more than
 // 65,536 bytes, and that surplus numbers change nothing.
+#![tactic(auto)]
+
 ghost use Rattle.std.specs.Prelude.{◌≡◌, false, [], ◌∷◌, ◌++◌, ◌+◌, ◌*◌, ◌<◌, ◌≤◌, length, get_or};
 ghost use Rattle.text.specs.Numbers.{digits};
 ghost use Rattle.text.specs.Writer.{Wrote, joined};
@@ -16,7 +18,7 @@ use netlist::{Literal, Variable, is_netlist};
 use text::{Refusal, put_byte, put_bytes, put_number};
 
 // Why a write is refused.
-#[derive(Drop)]
+#[derive(Clone, Copy)]
 pub enum Cause {
     // The buffer is shorter than the file.
     ShortBuffer,
@@ -43,7 +45,7 @@ impl Cause {
 }
 
 // What a write answers.
-#[derive(Drop)]
+#[derive(Clone, Copy)]
 pub enum Written {
     // How many bytes the file has.
     Bytes(usize),

@@ -2,6 +2,8 @@
 // Exports that it takes exactly the files in the two forms, those of the text form with their gates in any order, that
 // what was written in either reads as the same numbers, and which reader answers; what each refuses, and where, is told by
 // aiger_read and packed_read.
+#![tactic(auto)]
+
 ghost use Rattle.std.specs.Prelude.{◌≡◌, ℕ, ◌<◌, get_or};
 ghost use Rattle.aiger_file.specs.Read.{refusal_of, text_cause, packed_cause, text_outcome, packed_outcome, read_end, read_of};
 ghost use Rattle.aiger_file.specs.Claims.{ReadMeans};
@@ -10,7 +12,7 @@ use aiger_lines::{Fault, has_tag};
 use text::Refusal;
 
 // Why a read is refused.
-#[derive(Drop)]
+#[derive(Clone, Copy)]
 pub enum Cause {
     // Over 65,536 bytes.
     TextTooLong,
@@ -63,7 +65,7 @@ impl Cause {
     }
 }
 
-#[derive(Drop)]
+#[derive(Clone, Copy)]
 pub enum ReadOutcome {
     // How many numbers the netlist has.
     Numbers(usize),

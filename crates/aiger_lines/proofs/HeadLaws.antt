@@ -128,9 +128,9 @@ module _ (second : ℕ) (s : List ℕ) where
         five_head (get_or vs 0 0) (get_or vs 1 0) (get_or vs 2 0) (get_or vs 3 0) (get_or vs 4 0) r (header_ok (get_or vs 0 0) (get_or vs 1 0) (get_or vs 2 0) (get_or vs 3 0) (get_or vs 4 0)) refl t (e ∙ ap (λ (l : List ℕ). fields l r) is) h
 
     -- SOUND
-    pub head_at : head_at second s ≡ heading m i l o a q → HeadAt second s m i l o a q
+    pub head_at_lem : head_at second s ≡ heading m i l o a q → HeadAt second s m i l o a q
     unfolding head_at
-    head_at h = go (has_tag second s) refl h
+    head_at_lem h = go (has_tag second s) refl h
       where
         go : (t : Bool) → has_tag second s ≡ t → cond t (headed (fields_of s 4 4)) (misheaded WrongShape) ≡ heading m i l o a q → HeadAt second s m i l o a q
         go true t g = fields-head (fields_of s 4 4) refl t g
@@ -171,6 +171,6 @@ module _ (second : ℕ) (s : List ℕ) where
   pub head-counted : (r : HeadRead) (h : Head) → head_in r ≡ head_at second s → r ≡ Good h → Counted h
   unfolding head_in
   head-counted r h is e =
-      let w = head_at h.variables h.inputs h.latches h.outputs h.gates h.next (sym is ∙ ap head_in e) in
+      let w = head_at_lem h.variables h.inputs h.latches h.outputs h.gates h.next (sym is ∙ ap head_in e) in
       let k = header h.variables h.inputs h.latches h.outputs h.gates w.ok in
       (omega (arith, k.sum, k.small), omega (arith, k.output, k.most), k.small)

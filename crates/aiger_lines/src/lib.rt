@@ -2,6 +2,8 @@
 // say, and how numbers are stored. Knows nothing of the lines of inputs, of gates or of what stands where in
 // a file. Its laws, for the readers above: lines are read just where their texts stand, and when the numbers
 // of lines are a netlist.
+#![tactic(auto)]
+
 use netlist::Literal;
 
 mod fields;
@@ -13,7 +15,7 @@ pub use lines::{header_at, latch_says, output_line};
 pub use stores::{store, store_given, store_head, store_pair};
 
 // Why a line is refused.
-#[derive(Drop)]
+#[derive(Clone, Copy)]
 pub enum Fault {
     // Wrong shape, missing or extra.
     WrongShape,
@@ -30,7 +32,7 @@ pub struct Line {
 }
 
 // What a line gives to the netlist: nothing, an output, or a latch's next and reset or a gate's operands.
-#[derive(Drop)]
+#[derive(Clone, Copy)]
 pub enum Literals {
     None,
     One(Literal),
@@ -38,7 +40,7 @@ pub enum Literals {
 }
 
 // A line's literals, the uninitialised latches so far, and the place after the line.
-#[derive(Drop)]
+#[derive(Clone, Copy)]
 pub struct Given {
     pub literals: Literals,
     pub free: usize,
@@ -46,14 +48,14 @@ pub struct Given {
 }
 
 // A line that was read, or its fault.
-#[derive(Drop)]
+#[derive(Clone, Copy)]
 pub enum LineRead {
     Good(Given),
     Bad(Fault),
 }
 
 // The header's numbers, and the place after its line.
-#[derive(Drop)]
+#[derive(Clone, Copy)]
 pub struct Head {
     pub variables: u16,
     pub inputs: u16,
@@ -64,14 +66,14 @@ pub struct Head {
 }
 
 // A header that was read, or its fault.
-#[derive(Drop)]
+#[derive(Clone, Copy)]
 pub enum HeadRead {
     Good(Head),
     Bad(Fault),
 }
 
 // How far a pass is: the uninitialised latches so far, the place in the text, and that in the netlist.
-#[derive(Drop)]
+#[derive(Clone, Copy)]
 pub struct Cursor {
     pub free: usize,
     pub at: usize,
@@ -79,7 +81,7 @@ pub struct Cursor {
 }
 
 // Lines that were read, or the first fault and its line.
-#[derive(Drop)]
+#[derive(Clone, Copy)]
 pub enum Passed {
     Past(Cursor),
     Failed(Fault, u32),

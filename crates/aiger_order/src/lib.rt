@@ -1,6 +1,8 @@
 // Places the gates of a file that come in no order: the netlist of loose numbers, its gates in their order, into a
 // lent buffer of 16-bit numbers. Knows nothing of texts. Exports that there is one such netlist exactly where no gates
 // wait on each other, that it is the one stored, and that it means what AIGER says of the file itself.
+#![tactic(auto)]
+
 ghost use Rattle.std.specs.Prelude.{◌≡◌};
 ghost use Rattle.aiger_order.specs.Place.{place_end, place_of};
 ghost use Rattle.aiger_order.specs.Claims.{PlaceMeans};
@@ -15,7 +17,7 @@ mod orders;
 mod stores;
 
 // What place answers.
-#[derive(Drop)]
+#[derive(Clone, Copy)]
 pub enum Placing {
     // How many numbers the netlist has.
     Placed(usize),
@@ -37,7 +39,7 @@ const UNPLACED: u16 = 65535;
 const HEADER: usize = 5;
 
 // The gates of loose numbers: the variable of the first, how many they are, and where their operands stand.
-#[derive(Drop)]
+#[derive(Clone, Copy)]
 struct Gates {
     first: Variable,
     count: u16,

@@ -12,7 +12,7 @@ use Rattle.netlist.proofs.ValidLaws.{header}
 use Rattle.aiger.specs.Rows.{header_row}
 use Rattle.aiger_lines.specs.Blocks.{rows}
 use Rattle.aiger_lines.specs.Heads.{head_at}
-use Rattle.aiger_lines.proofs.HeadLaws.{HeadAt, head_at}
+use Rattle.aiger_lines.proofs.HeadLaws.{HeadAt, head_at_lem}
 use Rattle.aiger_lines.proofs.TextLaws.{output_sound}
 use Rattle.aiger_lines.proofs.RunLaws.{head_rows}
 use Rattle.aiger_lines.proofs.LayoutLaws.{Pieces, net_of, pair_at}
@@ -62,4 +62,4 @@ pub sound : (s ns : List ℕ) (free q : ℕ) → file_read s ≡ rows ns free q 
 unfolding file_read
 sound s ns free q h =
     head_rows _ (head_at 97 s) (body_of s) ns free q h
-    (λ m i l o a r ks x y n. five_file s m i l o a r ks (body_read s m i l o a r ks free q y) (head_at 97 s m i l o a r x) ns n)
+    (λ m i l o a r ks x y n. five_file s m i l o a r ks (body_read s m i l o a r ks free q y) (head_at_lem 97 s m i l o a r x) ns n)

@@ -23,7 +23,7 @@ use Rattle.aiger_lines.specs.Lines.{Row, row, fault}
 use Rattle.aiger_lines.specs.Blocks.{Rows, rows, failed, on_row}
 use Rattle.aiger_lines.specs.Heads.{head_at}
 use Rattle.aiger_lines.specs.Private.Steps.{head_in, Took}
-use Rattle.aiger_lines.proofs.HeadLaws.{head_at}
+use Rattle.aiger_lines.proofs.HeadLaws.{head_at_lem}
 use Rattle.aiger_lines.proofs.PassLaws.{took_then, took-failed}
 use Rattle.aiger_read.specs.declared.Kind.TheVariants.{Latch, Output}
 use Rattle.aiger_read.specs.declared.Block.{Block}
@@ -67,7 +67,7 @@ module _ (s : List ℕ) (h : Head) (from : Cursor) (last : Literal) (is : last.0
 pub headed : (second : ℕ) (s : List ℕ) (r : HeadRead) (h : Head) → head_in r ≡ head_at second s → r ≡ Good h → Headed h
 unfolding head_in
 headed second s r h is e =
-    let w = head_at second s h.variables h.inputs h.latches h.outputs h.gates h.next (sym is ∙ ap head_in e) in
+    let w = head_at_lem second s h.variables h.inputs h.latches h.outputs h.gates h.next (sym is ∙ ap head_in e) in
     let k = header h.variables h.inputs h.latches h.outputs h.gates w.ok in
     (k.sum, omega (arith, k.output, k.most), k.small)
 

@@ -2,6 +2,8 @@
 // numbers. Knows nothing of graphs. Exports that it takes exactly the files, explicit resets 0 allowed, whose gates do not
 // wait on each other; that the netlist it gives means what the file means; that a netlist's own file, its gate lines
 // shuffled or not, reads as the netlist; and at which line it tells every fault.
+#![tactic(auto)]
+
 ghost use Rattle.std.specs.Prelude.{◌≡◌};
 ghost use Rattle.aiger_read.specs.Read.{refusal_of, read_end, read_of};
 ghost use Rattle.aiger_read.specs.Claims.{ReadMeans};
@@ -16,7 +18,7 @@ mod files;
 mod lines;
 
 // Why a read is refused.
-#[derive(Drop)]
+#[derive(Clone, Copy)]
 pub enum Cause {
     // Over 65,536 bytes.
     TextTooLong,
@@ -57,7 +59,7 @@ impl Cause {
     }
 }
 
-#[derive(Drop)]
+#[derive(Clone, Copy)]
 pub enum ReadOutcome {
     // How many numbers the netlist has.
     Numbers(usize),
@@ -104,7 +106,7 @@ pub fn read(text: &[u8], net: &mut [u16]) -> ReadOutcome
 
 // The kinds of lines between the header and the gates. Those of inputs and latches have the variable of the
 // first one, and those of latches and outputs the largest literal.
-#[derive(Drop)]
+#[derive(Clone, Copy)]
 enum Kind {
     Input(Variable),
     Latch(Variable, Literal),
@@ -112,7 +114,7 @@ enum Kind {
 }
 
 // Lines of one kind: how many, and the line number of the first.
-#[derive(Drop)]
+#[derive(Clone, Copy)]
 struct Block {
     kind: Kind,
     count: u16,
@@ -120,7 +122,7 @@ struct Block {
 }
 
 // The place after a gate's line, or the line's fault.
-#[derive(Drop)]
+#[derive(Clone, Copy)]
 enum GateRead {
     Next(usize),
     Bad(Fault),

@@ -1,7 +1,7 @@
 -- `since_init` read back: the cycles from the latest init on. Assumes nothing.
 use mathlib.Core.Path.{◌≡◌, refl, ap, subst, sym, ◌∙◌}
 use mathlib.Core.Bool.{Bool, true, false, ◌||◌, cond}
-use mathlib.Core.List.{List, [], ◌∷◌, ◌++◌}
+use mathlib.Core.List.{List, [], ◌∷◌}
 use lib.Dec.{T}
 use Rattle.assertion.specs.Lists.{any}
 use Rattle.assertion.specs.Graph.{Cycle, is_init}

@@ -1,6 +1,7 @@
 // The cases of the largest inputs: a trace of 1,048,576 bytes, 524,288 lines `1` of which only the last is rejected, and
 // that trace with one byte more.
-use crate::{STDOUT, write_answers, write_number};
+use crate::{write_answers, write_number};
+use std::io;
 
 const LONGER: usize = 1048577;
 
@@ -18,36 +19,40 @@ fn put_ends(trace: &mut [u8; LONGER]) {
 }
 
 // Writes the case of a trace at the flywheel and that of the same trace at the handle, the other trace empty.
-fn write_each(width: usize, trace: &[u8], verdicts: &[u8]) {
+fn write_each(rt: &impl Print, width: usize, trace: &[u8], verdicts: &[u8]) -> io::Result<()> {
     let none = &trace[..0];
-    io::write_all(STDOUT, b"at the flywheel, bytes");
-    write_number(trace.len());
-    write_answers(width, trace, none, verdicts, none);
-    io::write_all(STDOUT, b"at the handle, bytes");
-    write_number(trace.len());
-    write_answers(width, none, trace, none, verdicts);
+    rt.write_all(b"at the flywheel, bytes")?;
+    write_number(rt, trace.len())?;
+    write_answers(rt, width, trace, none, verdicts, none)?;
+    rt.write_all(b"at the handle, bytes")?;
+    write_number(rt, trace.len())?;
+    write_answers(rt, width, none, trace, none, verdicts)
 }
 
 // Writes the cases of a trace without its last byte at width 1, and those of the whole at width 0, so that of two
 // refusals the first shows.
-fn write_both(trace: &[u8], verdicts: &[u8]) {
+fn write_both(rt: &impl Print, trace: &[u8], verdicts: &[u8]) -> io::Result<()> {
     let n = trace.len();
     if 0 < n {
-        write_each(1, &trace[0..n - 1], verdicts);
+        write_each(rt, 1, &trace[0..n - 1], verdicts)?;
     }
-    write_each(0, trace, verdicts);
+    write_each(rt, 0, trace, verdicts)
 }
 
 // Makes lines of a trace and rejects the last.
-fn write_filled(trace: &mut [u8; LONGER], verdicts: &mut [u8; LINES]) {
+fn write_filled(
+    rt: &impl Print,
+    trace: &mut [u8; LONGER],
+    verdicts: &mut [u8; LINES],
+) -> io::Result<()> {
     put_ends(trace);
     verdicts[LAST] = 1;
-    write_both(trace, verdicts);
+    write_both(rt, trace, verdicts)
 }
 
 // Writes all of them.
-pub(crate) fn write_largest() {
+pub(crate) fn write_largest(rt: &impl Print) -> io::Result<()> {
     let mut trace = [b'1'; LONGER];
     let mut verdicts = [0u8; LINES];
-    write_filled(&mut trace, &mut verdicts);
+    write_filled(rt, &mut trace, &mut verdicts)
 }

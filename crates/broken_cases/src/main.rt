@@ -6,72 +6,77 @@
 // `none`, or `refused` with number and line and, for a wrong line, its trace; `at` with the trace in which the part
 // stands, its place and its length; and the part in brackets; parted by tabs. cases.py writes the cases and, by hand,
 // what document 02, No. 12, says of each. Last come the cases of the largest inputs.
+#![tactic(auto)]
+
 use first_broken::{Cause, Checked, Found};
+use std::io;
 
 mod largest;
 
-const STDIN: i32 = 0;
-
-pub(crate) const STDOUT: i32 = 1;
-
 // Writes a blank and a number.
-pub(crate) fn write_number(n: usize) {
+pub(crate) fn write_number(rt: &impl Print, n: usize) -> io::Result<()> {
     let mut out = [b' '; 32];
     let end = text::put_number(&mut out, 1, n);
     if end <= 32 {
-        io::write_all(STDOUT, &out[0..end]);
+        rt.write_all(&out[0..end])?;
     }
+    Ok(())
 }
 
 // Writes which trace it is.
-fn write_trace(handle: bool) {
+fn write_trace(rt: &impl Print, handle: bool) -> io::Result<()> {
     if handle {
-        io::write_all(STDOUT, b" handle");
+        rt.write_all(b" handle")
     } else {
-        io::write_all(STDOUT, b" flywheel");
+        rt.write_all(b" flywheel")
     }
 }
 
 // Writes what the check answered.
-fn write_checked(checked: Checked) {
+fn write_checked(rt: &impl Print, checked: Checked) -> io::Result<()> {
     match checked {
-        Checked::Fine => {
-            io::write_all(STDOUT, b"\tnone");
-        }
+        Checked::Fine => rt.write_all(b"\tnone"),
         Checked::Refused(cause) => {
             let r = cause.refusal();
-            io::write_all(STDOUT, b"\trefused");
-            write_number(r.number as usize);
-            write_number(r.line as usize);
+            rt.write_all(b"\trefused")?;
+            write_number(rt, r.number as usize)?;
+            write_number(rt, r.line as usize)?;
             match cause {
-                Cause::FlywheelLine(_) => write_trace(false),
-                Cause::HandleLine(_) => write_trace(true),
-                _ => {}
+                Cause::FlywheelLine(_) => write_trace(rt, false),
+                Cause::HandleLine(_) => write_trace(rt, true),
+                _ => Ok(()),
             }
         }
     }
 }
 
 // Writes which trace the part stands in, its place and its length.
-fn write_found(found: Found) {
-    io::write_all(STDOUT, b"\tat");
-    write_trace(found.handle);
-    write_number(found.at);
-    write_number(found.length);
+fn write_found(rt: &impl Print, found: Found) -> io::Result<()> {
+    rt.write_all(b"\tat")?;
+    write_trace(rt, found.handle)?;
+    write_number(rt, found.at)?;
+    write_number(rt, found.length)
 }
 
 // Writes the bytes of the part.
-fn write_part(part: &[u8]) {
-    io::write_all(STDOUT, b"\t[");
-    io::write_all(STDOUT, part);
-    io::write_all(STDOUT, b"]\n");
+fn write_part(rt: &impl Print, part: &[u8]) -> io::Result<()> {
+    rt.write_all(b"\t[")?;
+    rt.write_all(part)?;
+    rt.write_all(b"]\n")
 }
 
 // Writes what the three calls answer to a width, the flywheel trace, the handle trace, and the verdict bytes of each.
-pub(crate) fn write_answers<'a>(width: usize, f: &'a [u8], h: &'a [u8], fv: &[u8], hv: &[u8]) {
-    write_checked(first_broken::check(width, f, h, fv, hv));
-    write_found(first_broken::find(width, f, h, fv, hv));
-    write_part(first_broken::first_broken(width, f, h, fv, hv));
+pub(crate) fn write_answers<'a>(
+    rt: &impl Print,
+    width: usize,
+    f: &'a [u8],
+    h: &'a [u8],
+    fv: &[u8],
+    hv: &[u8],
+) -> io::Result<()> {
+    write_checked(rt, first_broken::check(width, f, h, fv, hv))?;
+    write_found(rt, first_broken::find(width, f, h, fv, hv))?;
+    write_part(rt, first_broken::first_broken(width, f, h, fv, hv))
 }
 
 // The first byte of a text as a number; 0 where it is empty.
@@ -98,38 +103,40 @@ fn after(s: &[u8]) -> &[u8] {
 }
 
 // Writes the line of the case at the front of a text: how many bytes come after it.
-fn write_case(label: &[u8]) -> usize {
+fn write_case(rt: &impl Print, label: &[u8]) -> io::Result<usize> {
     let width = after(label);
     let f = after(width);
     let h = after(f);
     let fv = after(h);
     let hv = after(fv);
-    io::write_all(STDOUT, field(label));
+    rt.write_all(field(label))?;
     write_answers(
+        rt,
         first(field(width)),
         field(f),
         field(h),
         field(fv),
         field(hv),
-    );
-    after(hv).len()
+    )?;
+    Ok(after(hv).len())
 }
 
 // All cases of standard input.
-fn cases(input: &[u8]) {
+fn cases(rt: &impl Print, input: &[u8]) -> io::Result<()> {
     let mut at = 0;
     while at < input.len() {
-        let left = write_case(&input[at..]);
+        let left = write_case(rt, &input[at..])?;
         if input.len() - at <= left {
-            return;
+            return Ok(());
         }
         at = input.len() - left;
     }
+    Ok(())
 }
 
-fn main() {
+fn main(rt: HostRuntime) -> io::Result<()> {
     let mut input = [0u8; 8192];
-    let n = io::read_full(STDIN, &mut input);
-    cases(&input[..n]);
-    largest::write_largest();
+    let n = stream::read_full(&mut rt.stdin(), &mut input)?;
+    cases(&rt, &input[..n])?;
+    largest::write_largest(&rt)
 }

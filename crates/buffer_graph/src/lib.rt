@@ -1,6 +1,8 @@
 // The stroke buffer's graph, written into a lent buffer. buffer_text says which graph it is and what it rejects; this crate
 // knows nothing of how a text is read or built. Exports that what is written is accepted, that on any trace it rejects just
 // the cycles that the buffer's count condemns, and what build makes of it: the clause `buffer` of `write`.
+#![tactic(auto)]
+
 ghost use Rattle.std.specs.Prelude.{◌≡◌, ℕ, ◌≤◌, length, take};
 ghost use Rattle.buffer_text.specs.Text.{buffer_text};
 ghost use Rattle.buffer_text.specs.Claims.{StrokeBuffer};
@@ -15,7 +17,7 @@ mod lines;
 const MAX_STROKES: u64 = 40;
 
 // Why a graph is not written.
-#[derive(Drop)]
+#[derive(Clone, Copy)]
 pub enum Cause {
     // No stroke, or more than 40.
     StrokesOutside,
@@ -23,7 +25,7 @@ pub enum Cause {
     ShortBuffer,
 }
 
-#[derive(Drop)]
+#[derive(Clone, Copy)]
 pub enum Written {
     // How many bytes the text has.
     Bytes(usize),

@@ -1,14 +1,13 @@
 // The program that prints the stroke buffer's graph. Standard input holds the number of strokes, in base ten and ended by
 // LF; standard output gets the graph's text, or the refusal.
+#![tactic(auto)]
+
 ghost use Rattle.std.specs.Prelude.{◌≡◌, List, ℕ, ◌≤◌, length, take};
 ghost use Rattle.buffer_rule.specs.Page.{strokes_of, strokes_page, rule_text};
 
 use buffer_graph::Written;
+use std::io;
 use text::Number;
-
-const STDIN: i32 = 0;
-
-const STDOUT: i32 = 1;
 
 // One byte more than a line of five digits, the longest that is read as a number: what is longer is refused, and no more of
 // it is read.
@@ -55,10 +54,10 @@ fn page_of(input: &[u8], n: usize, out: &mut [u8]) -> usize
     put_page(strokes_of(&input[..n]), out)
 }
 
-fn main() {
+fn main(rt: HostRuntime) -> io::Result<()> {
     let mut input = [0u8; INPUT];
     let mut out = [0u8; PAGE];
-    let n = io::read_full(STDIN, &mut input);
+    let n = stream::read_full(&mut rt.stdin(), &mut input)?;
     let end = page_of(&input, n, &mut out);
-    io::write_all(STDOUT, &out[..end]);
+    rt.write_all(&out[..end])
 }

@@ -170,7 +170,7 @@ module _ (k : ℕ) where
   unfolding lines_of line_of fields_of mark_of edge_record start_line digits digits_of
   start_prints =
       record {
-        fine = (record { from = omega (arith, vertices-length); to = omega (arith, vertices-length); antecedent = labels.l-reset; consequent = labels.l-always }, tt);
+        fine = (record { from = omega (arith, vertices-length); to = omega (arith, vertices-length); antecedent = labels.l-reset; consequent = labels.l_always }, tt);
         lines = rw (name-at (suc k) 0 (omega arith));
       }
 
@@ -179,20 +179,20 @@ module _ (k : ℕ) where
   count_prints n true w d e h l =
       rw d
       (append_prints
-      (edge_prints n 1 enq none_flags l h labels.l-enq labels.l-none)
-      (edge_prints n 0 (off enq) none_flags l (omega arith) labels.l-no-enq labels.l-none))
+      (edge_prints n 1 enq none_flags l h labels.l_enq labels.l-none)
+      (edge_prints n 0 (off enq) none_flags l (omega arith) labels.l_no_enq labels.l-none))
   count_prints n false true d e h l =
       rw (d, e)
       (append_prints
-      (edge_prints n (k - 1) deq all_flags l (omega arith) labels.l-deq labels.l-all)
-      (edge_prints n k (off deq) all_flags l (omega arith) labels.l-no-deq labels.l-all))
+      (edge_prints n (k - 1) deq all_flags l (omega arith) labels.l_deq labels.l-all)
+      (edge_prints n k (off deq) all_flags l (omega arith) labels.l_no_deq labels.l-all))
   count_prints n false false d e h l =
       rw (d, e)
       (append_prints
-      (edge_prints n (n + 1) (both enq (off deq)) some_flags l (omega (arith, eqb-false n k e)) labels.l-up labels.l-some)
+      (edge_prints n (n + 1) (both enq (off deq)) some_flags l (omega (arith, eqb-false n k e)) labels.l_up labels.l-some)
       (append_prints
-      (edge_prints n (n - 1) (both (off enq) deq) some_flags l (omega arith) labels.l-down labels.l-some)
-      (edge_prints n n (alike enq deq) some_flags l l labels.l-stay labels.l-some)))
+      (edge_prints n (n - 1) (both (off enq) deq) some_flags l (omega arith) labels.l_down labels.l-some)
+      (edge_prints n n (alike enq deq) some_flags l l labels.l_stay labels.l-some)))
 
   counts_print : (m : ℕ) → 1 ≤ k → m ≤ suc k → Prints (edges_below k m) (joined (count_lines k) m)
   counts_print zero h l = none_prints

@@ -189,6 +189,7 @@ operator_small (Memᴰ.head e) = omega arith
 operator_small (Memᴰ.tail (Memᴰ.head e)) = omega arith
 operator_small (Memᴰ.tail (Memᴰ.tail (Memᴰ.head e))) = omega arith
 operator_small (Memᴰ.tail (Memᴰ.tail (Memᴰ.tail (Memᴰ.head e)))) = omega arith
+operator_small (Memᴰ.tail (Memᴰ.tail (Memᴰ.tail (Memᴰ.tail x')))) = elim x' [ ]
 
 binds_small : (b : ℕ) → 0 < strength_of b → byte_word b < 8192
 binds_small b h = byte_word-small b (operator_small (operator b h))
@@ -262,12 +263,12 @@ module _ (ns : List Declared) (s : Bytes) where
         ∙ rw (found_name p k h (alike_word-left p k q j (small p k h) (small q j i)), found_name q j i (alike_word-right p k q j (small p k h) (small q j i)))
         (alike_made_lem m n (found_at ns s p k).place (found_at ns s q j).place (found_at ns s p k).width)
 
-  byte_word : (b n x y : ℕ) → byte_word b < 8192 → word_made ns s (byte_word b) n x y ≡ byte_made b n x y
-  byte_word b n x y h = word_byte ns s (byte_word b) n x y (byte_word-large b) h ∙ rw (byte_word-back b)
+  byte_word_lem : (b n x y : ℕ) → byte_word b < 8192 → word_made ns s (byte_word b) n x y ≡ byte_made b n x y
+  byte_word_lem b n x y h = word_byte ns s (byte_word b) n x y (byte_word-large b) h ∙ rw (byte_word-back b)
 
-  bit_word : (b n x y : ℕ) → start_of b ≡ Bit → word_made ns s (byte_word b) n x y ≡ plain (literal_of 0 (eqb b 49))
-  bit_word b n x y h =
-      byte_word b n x y (bit-small b h)
+  bit_word_lem : (b n x y : ℕ) → start_of b ≡ Bit → word_made ns s (byte_word b) n x y ≡ plain (literal_of 0 (eqb b 49))
+  bit_word_lem b n x y h =
+      byte_word_lem b n x y (bit-small b h)
       ∙ ⊎_elim
       (λ (e : b ≡ 48). let z : eqb b 49 ≡ false = rw e in byte-zero b n x y e ∙ rw z)
       (λ (e : b ≡ 49). let z : eqb b 49 ≡ true = rw e in byte_one b n x y (λ q. not-both b e q) e ∙ rw z)
@@ -277,10 +278,10 @@ module _ (ns : List Declared) (s : Bytes) where
       not-both b e q = omega arith
 
   not-word : (n x y : ℕ) → word_made ns s (byte_word 33) n x y ≡ plain (inv y)
-  not-word n x y = byte_word 33 n x y (byte_word-small 33 (omega arith)) ∙ byte-not 33 n x y (λ q. omega arith) (λ q. omega arith) refl
+  not-word n x y = byte_word_lem 33 n x y (byte_word-small 33 (omega arith)) ∙ byte-not 33 n x y (λ q. omega arith) (λ q. omega arith) refl
 
   operator_word : (b n x y : ℕ) → 0 < strength_of b → word_made ns s (byte_word b) n x y ≡ operated b n x y
-  operator_word b n x y h = byte_word b n x y (binds_small b h) ∙ byte_operator b n x y (binds_not b 48 h weak_zero) (binds_not b 49 h weak_one) (binds_not b 33 h weak_not)
+  operator_word b n x y h = byte_word_lem b n x y (binds_small b h) ∙ byte_operator b n x y (binds_not b 48 h weak_zero) (binds_not b 49 h weak_one) (binds_not b 33 h weak_not)
 
 bit-taken : (b : ℕ) → start_of b ≡ Bit → taken (byte_word b) ≡ 0
 bit-taken b h =
@@ -310,7 +311,7 @@ alike-taken p k q j = taken-names (alike_word p k q j) (omega (arith, alike_word
 module _ (ns : List Declared) (s : Bytes) (m : ℕ) where
   bit-ran : (b : ℕ) → start_of b ≡ Bit → (rest st : List ℕ) (n : ℕ) → ran ns s (byte_word b ∷ rest) st n ≡ onward ns s (formula m n (truth (eqb b 49))) rest st n
   unfolding formula
-  bit-ran b h rest st n = word-ran ns s (byte_word b) rest st st n (plain (literal_of 0 (eqb b 49))) (bit_word ns s b n (get_or st 1 0) (get_or st 0 0) h) (rw (bit-taken b h))
+  bit-ran b h rest st n = word-ran ns s (byte_word b) rest st st n (plain (literal_of 0 (eqb b 49))) (bit_word_lem ns s b n (get_or st 1 0) (get_or st 0 0) h) (rw (bit-taken b h))
 
   not-ran : (x : Expr) (ws rest st : List ℕ) (n : ℕ) → ran ns s (ws ++ (byte_word 33 ∷ rest)) st n ≡ onward ns s (formula m n x) (byte_word 33 ∷ rest) st n → ran ns s ((ws ++ (byte_word 33 ∷ [])) ++ rest) st n ≡ onward ns s (formula m n (neg x)) rest st n
   unfolding formula

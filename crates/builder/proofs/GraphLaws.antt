@@ -15,7 +15,7 @@ use Rattle.graph.specs.Pieces.{Declared, placed}
 use Rattle.graph.specs.Reading.{names_of, judged_tree, judged_formula, tree_expr, graph_of, accepted}
 use Rattle.graph.specs.Meaning.{EachWidth, Named, bit_in, Means}
 use Rattle.graph.specs.Meaning.Named.{a_signal, a-constant}
-use Rattle.graph.specs.Meaning.Means.{one_bit, bit_of, compared, is_zero, is_one, inverted, bracketed, both, some, just_one, both-alike}
+use Rattle.graph.specs.Meaning.Means.{one_bit, bit_at_index, compared, is_zero, is_one, inverted, bracketed, both, some, just_one, both-alike}
 use Rattle.graph.specs.Held.{no_arc, held_as, held_of}
 use Rattle.graph.specs.declared.Arc.{Arc}
 use Rattle.graph.specs.declared.Judged.TheVariants.{Fine}
@@ -45,7 +45,7 @@ module _ (ss cs : List Name) where
   -- what a formula means names what there is
   scoped : (s : Bytes) (t : Tree) (x : Expr) → Means ss cs s t x → Scoped (bits_of ss) (bits_of cs) x
   scoped s t x (one_bit p n r d) = bit_scoped r 0 1 (run_fits (take n (drop p s)) r 1 d) (omega arith)
-  scoped s t x (bit_of p n i w r d l) = bit_scoped r i w (run_fits (take n (drop p s)) r w d) l
+  scoped s t x (bit_at_index p n i w r d l) = bit_scoped r i w (run_fits (take n (drop p s)) r w d) l
   scoped s t x (compared p n q m w a b d e) = (run_fits (take n (drop p s)) a w d, run_fits (take m (drop q s)) b w e)
   scoped s t x is_zero = tt
   scoped s t x is_one = tt

@@ -2,6 +2,8 @@
 // graph text is stands in graph, and what its monitor is in circuit: here is how its numbers come into a lent buffer.
 // Knows of start, step and run only their definitions. Exports that a build answers and leaves just what those
 // definitions say, and with it demand 3, from graph text to tally.
+#![tactic(auto)]
+
 ghost use Rattle.std.specs.Prelude.{◌≡◌};
 ghost use Rattle.assertion.specs.Graph.{Graph};
 ghost use Rattle.graph.specs.Reading.{accepted, graph_of};
@@ -32,7 +34,7 @@ mod vertices;
 const MOST_VARIABLES: usize = 4095;
 
 // Why a build is refused.
-#[derive(Drop)]
+#[derive(Clone, Copy)]
 pub enum Cause {
     // The graph text is refused.
     GraphText(graph::Cause),
@@ -43,7 +45,7 @@ pub enum Cause {
 }
 
 // What a build answers.
-#[derive(Drop)]
+#[derive(Clone, Copy)]
 pub enum Built {
     // How many gates were made.
     Gates(usize),
@@ -51,14 +53,14 @@ pub enum Built {
 }
 
 // A literal, and the next variable after the gates that make it.
-#[derive(Drop)]
+#[derive(Clone, Copy)]
 struct Made {
     next: Variable,
     lit: Literal,
 }
 
 // An OR chain: the next variable, whether it has a term, and the literal that its terms make.
-#[derive(Drop)]
+#[derive(Clone, Copy)]
 struct Chain {
     next: Variable,
     some: bool,
@@ -67,7 +69,7 @@ struct Chain {
 
 // The happy and condemned literals of a vertex or of an edge, and the next variable after the gates that
 // make them.
-#[derive(Drop)]
+#[derive(Clone, Copy)]
 struct Both {
     next: Variable,
     happy: Literal,
@@ -75,7 +77,7 @@ struct Both {
 }
 
 // The output literals, and the next variable after all gates; `second` is 0 where checked is not asked for.
-#[derive(Drop)]
+#[derive(Clone, Copy)]
 struct Outputs {
     next: Variable,
     accept: Literal,

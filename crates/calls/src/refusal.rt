@@ -12,7 +12,7 @@ use trace::{fault, is_cycle};
 // The most bytes of a trace.
 const MAX_TRACE: usize = 1048576;
 
-#[derive(Drop)]
+#[derive(Clone, Copy)]
 pub enum Cause {
     // The trace is over 1,048,576 bytes.
     TraceTooLong,
@@ -27,7 +27,7 @@ pub enum Cause {
 }
 
 // What the tests before a call say.
-#[derive(Drop)]
+#[derive(Clone, Copy)]
 pub enum Tested {
     Passed,
     Failed(Cause),

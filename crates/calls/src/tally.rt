@@ -2,7 +2,7 @@
 ghost use Rattle.std.specs.Prelude.{◌≡◌, ◌≤◌};
 ghost use Rattle.calls.specs.Tallies.{is_rejected, is_checked, has_room};
 
-#[derive(Drop)]
+#[derive(Clone, Copy)]
 pub struct Tally {
     pub cycles: u32,
     pub rejected: u32,
@@ -32,7 +32,7 @@ pub fn is_checked(word: u64) -> bool
 
 // Whether no number of the tally passes its 32 bits with some new cycles, of which a trace has at most one for each of
 // its 1,048,576 bytes.
-pub(crate) fn has_room(tally: Tally, cycles: usize) -> bool
+pub fn has_room(tally: Tally, cycles: usize) -> bool
     requires { cycles ≤ 1048576 }
     ensures { result ≡ has_room tally cycles }
 {

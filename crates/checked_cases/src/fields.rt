@@ -8,7 +8,7 @@ const MOST: usize = 4294967295;
 
 // A field at the front of a text: its bytes are those from `start` to before `end`. Where there is none both are the
 // text's length.
-#[derive(Drop)]
+#[derive(Clone, Copy)]
 struct Span {
     start: usize,
     end: usize,

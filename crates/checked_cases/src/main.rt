@@ -9,49 +9,52 @@
 //
 // The line written for a case is its name, a tab and the answer. cases.py writes the cases and, from a model of the
 // documents, the lines that are expected.
+#![tactic(auto)]
+
 use fields::{after, after_three, field};
 use output::write;
+use std::io;
 
 mod fields;
 mod netlists;
 mod output;
 mod runs;
 
-const STDIN: i32 = 0;
-
 // Room for all cases, and a byte more at least.
 const ROOM: usize = 131072;
 
 // Writes the line of the case at the front of a text: how many bytes come after it.
-fn write_case(name: &[u8]) -> usize {
+fn write_case(rt: &impl Print, name: &[u8]) -> io::Result<usize> {
     let kind = after(name);
     let given = after(kind);
     let tally = after(after(given));
     let traces = after_three(tally);
-    write(field(name));
-    write(b"\t");
-    netlists::write_answer(field(kind), given);
-    write(b"\n");
-    after(after(traces)).len()
+    write(rt, field(name))?;
+    write(rt, b"\t")?;
+    netlists::write_answer(rt, field(kind), given)?;
+    write(rt, b"\n")?;
+    Ok(after(after(traces)).len())
 }
 
 // All cases of standard input.
-fn cases(input: &[u8]) {
+fn cases(rt: &impl Print, input: &[u8]) -> io::Result<()> {
     let mut at = 0;
     while at < input.len() {
-        let left = write_case(&input[at..]);
+        let left = write_case(rt, &input[at..])?;
         if input.len() - at <= left {
-            return;
+            return Ok(());
         }
         at = input.len() - left;
     }
+    Ok(())
 }
 
-fn main() {
+fn main(rt: HostRuntime) -> io::Result<()> {
     let mut input = [0u8; ROOM];
-    let n = io::read_full(STDIN, &mut input);
-    cases(&input[..n]);
+    let n = stream::read_full(&mut rt.stdin(), &mut input)?;
+    cases(&rt, &input[..n])?;
     if n == ROOM {
-        write(b"TOO LONG\n");
+        write(&rt, b"TOO LONG\n")?;
     }
+    Ok(())
 }

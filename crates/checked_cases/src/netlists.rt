@@ -7,6 +7,7 @@ use crate::runs;
 use aiger::Written;
 use aiger_read::ReadOutcome;
 use builder::Built;
+use std::io;
 
 // Room for the numbers of any netlist, and for any file.
 const NUMBERS: usize = 8195;
@@ -19,56 +20,62 @@ const PRIME: usize = 4294967291;
 const FACTOR: usize = 257;
 
 // Writes a number and what follows it.
-fn write_counted(n: usize, what: &[u8]) {
-    write_number(n);
-    write(what);
+fn write_counted(rt: &impl Print, n: usize, what: &[u8]) -> io::Result<()> {
+    write_number(rt, n)?;
+    write(rt, what)
 }
 
 // Builds the monitor of a graph and writes the answer: whether there is a netlist.
-fn build(graph: &[u8], checked: bool, net: &mut [u16]) -> bool {
+fn build(rt: &impl Print, graph: &[u8], checked: bool, net: &mut [u16]) -> io::Result<bool> {
     let built = builder::build(graph, checked, net);
     match built {
         Built::Gates(gates) => {
-            write_counted(gates, b" gates");
-            true
+            write_counted(rt, gates, b" gates")?;
+            Ok(true)
         }
         Built::Refused(cause) => {
-            write_refusal(cause.refusal());
-            false
+            write_refusal(rt, cause.refusal())?;
+            Ok(false)
         }
     }
 }
 
 // Reads a file and writes the answer: whether there is a netlist.
-fn read(file: &[u8], net: &mut [u16]) -> bool {
+fn read(rt: &impl Print, file: &[u8], net: &mut [u16]) -> io::Result<bool> {
     let outcome = aiger_read::read(file, net);
     match outcome {
         ReadOutcome::Numbers(numbers) => {
-            write_counted(numbers, b" numbers read");
-            true
+            write_counted(rt, numbers, b" numbers read")?;
+            Ok(true)
         }
         ReadOutcome::Refused(cause) => {
-            write_refusal(cause.refusal());
-            false
+            write_refusal(rt, cause.refusal())?;
+            Ok(false)
         }
     }
 }
 
 // Builds or reads, by the first byte of a kind.
-fn make(kind: u8, text: &[u8], net: &mut [u16]) -> bool {
+fn make(rt: &impl Print, kind: u8, text: &[u8], net: &mut [u16]) -> io::Result<bool> {
     if kind == b'f' {
-        read(text, net)
+        read(rt, text, net)
     } else {
-        build(text, kind == b'c', net)
+        build(rt, text, kind == b'c', net)
     }
 }
 
 // The same with the first n numbers of a buffer lent, or all of it where it is shorter.
-fn make_within(kind: u8, text: &[u8], net: &mut [u16], n: usize) -> bool {
+fn make_within(
+    rt: &impl Print,
+    kind: u8,
+    text: &[u8],
+    net: &mut [u16],
+    n: usize,
+) -> io::Result<bool> {
     if n <= net.len() {
-        make(kind, text, &mut net[0..n])
+        make(rt, kind, text, &mut net[0..n])
     } else {
-        make(kind, text, net)
+        make(rt, kind, text, net)
     }
 }
 
@@ -88,18 +95,18 @@ fn same_numbers(a: &[u16], b: &[u16]) -> bool {
 }
 
 // Writes how many numbers the file of a netlist has when it is read, and whether they are the netlist's.
-fn write_again(net: &[u16], file: &[u8]) {
+fn write_again(rt: &impl Print, net: &[u16], file: &[u8]) -> io::Result<()> {
     let mut again = [0u16; NUMBERS];
     let outcome = aiger_read::read(file, &mut again);
     match outcome {
         ReadOutcome::Numbers(numbers) => {
             if same_numbers(net, &again) {
-                write_counted(numbers, b" numbers");
+                write_counted(rt, numbers, b" numbers")
             } else {
-                write_counted(numbers, b" OTHER NUMBERS");
+                write_counted(rt, numbers, b" OTHER NUMBERS")
             }
         }
-        ReadOutcome::Refused(cause) => write_refusal(cause.refusal()),
+        ReadOutcome::Refused(cause) => write_refusal(rt, cause.refusal()),
     }
 }
 
@@ -123,59 +130,63 @@ fn sum_of(s: &[u8]) -> usize {
 }
 
 // Writes a byte of a file, an LF as a comma.
-fn write_byte(b: u8) {
+fn write_byte(rt: &impl Print, b: u8) -> io::Result<()> {
     if b == b'\n' {
-        write(b",");
+        write(rt, b",")
     } else {
-        write(&[b]);
+        write(rt, &[b])
     }
 }
 
 // Writes a file, each LF as a comma.
-fn write_file(file: &[u8]) {
+fn write_file(rt: &impl Print, file: &[u8]) -> io::Result<()> {
     let mut i = 0;
     while i < file.len() {
-        write_byte(file[i]);
+        write_byte(rt, file[i])?;
         i += 1;
     }
+    Ok(())
 }
 
 // Writes what is said of a netlist's file, and the file where it is to be shown.
-fn write_filed(net: &[u16], file: &[u8], shown: bool) {
-    write_again(net, file);
-    write(b", sum ");
-    write_number(sum_of(file));
+fn write_filed(rt: &impl Print, net: &[u16], file: &[u8], shown: bool) -> io::Result<()> {
+    write_again(rt, net, file)?;
+    write(rt, b", sum ")?;
+    write_number(rt, sum_of(file))?;
     if shown {
-        write(b", ");
-        write_file(file);
+        write(rt, b", ")?;
+        write_file(rt, file)?;
     }
+    Ok(())
 }
 
 // Makes the file of a netlist, and writes what is said of it.
-fn write_written(net: &[u16], shown: bool) {
+fn write_written(rt: &impl Print, net: &[u16], shown: bool) -> io::Result<()> {
     let mut file = [0u8; FILE];
     let written = aiger::write(net, &mut file);
-    write(b", ");
+    write(rt, b", ")?;
     match written {
         Written::Bytes(end) => {
             if end <= FILE {
-                write_filed(net, &file[0..end], shown);
+                write_filed(rt, net, &file[0..end], shown)?;
             }
+            Ok(())
         }
-        Written::Refused(cause) => write_refusal(cause.refusal()),
+        Written::Refused(cause) => write_refusal(rt, cause.refusal()),
     }
 }
 
 // Writes what a case of a kind gives; `given` are the fields after the kind.
-pub(crate) fn write_answer(kind: &[u8], given: &[u8]) {
+pub(crate) fn write_answer(rt: &impl Print, kind: &[u8], given: &[u8]) -> io::Result<()> {
     let mut net = [0u16; NUMBERS];
     let lent = after(given);
     let asked = text::byte_at(kind, 1);
     let source = text::byte_at(kind, 0);
-    if make_within(source, field(given), &mut net, number_in(lent)) {
-        write_written(&net, asked == b'a');
+    if make_within(rt, source, field(given), &mut net, number_in(lent))? {
+        write_written(rt, &net, asked == b'a')?;
         if asked == b'r' {
-            runs::write_runs(&net, after(lent));
+            runs::write_runs(rt, &net, after(lent))?;
         }
     }
+    Ok(())
 }

@@ -1,28 +1,27 @@
 // Writing to standard output.
+use std::io;
 use text::Refusal;
 
-const STDOUT: i32 = 1;
-
 // Writes bytes.
-pub(crate) fn write(s: &[u8]) {
-    io::write_all(STDOUT, s);
+pub(crate) fn write(rt: &impl Print, s: &[u8]) -> io::Result<()> {
+    rt.write_all(s)
 }
 
 // Writes a number in decimal.
-pub(crate) fn write_number(n: usize) {
-    io::print_decimal(STDOUT, n as u64);
+pub(crate) fn write_number(rt: &impl Print, n: usize) -> io::Result<()> {
+    rt.print(n)
 }
 
 // Writes bytes, and after them a word in hexadecimal.
-pub(crate) fn write_word(before: &[u8], word: u64) {
-    write(before);
-    io::print_hex(STDOUT, word, 16);
+pub(crate) fn write_word(rt: &impl Print, before: &[u8], word: u64) -> io::Result<()> {
+    write(rt, before)?;
+    print!(rt; "{word:016x}")
 }
 
 // Writes `refused`, the number and the line.
-pub(crate) fn write_refusal(r: Refusal) {
-    write(b"refused ");
-    write_number(r.number as usize);
-    write(b" ");
-    write_number(r.line as usize);
+pub(crate) fn write_refusal(rt: &impl Print, r: Refusal) -> io::Result<()> {
+    write(rt, b"refused ")?;
+    write_number(rt, r.number as usize)?;
+    write(rt, b" ")?;
+    write_number(rt, r.line as usize)
 }

@@ -5,6 +5,7 @@ use crate::fields::{after, after_three, field, number_in};
 use crate::output::{write, write_number, write_refusal, write_word};
 use calls::{Cause, Tally};
 use simulator::{RunOutcome, StartOutcome, StepOutcome, Verdict};
+use std::io;
 use text::Line;
 
 // Room for the latch and value words of any netlist, and for the verdicts of a case.
@@ -16,7 +17,7 @@ const CYCLES: usize = 64;
 const FILL: u8 = 165;
 
 // The tally so far, and whether a step was refused.
-#[derive(Drop)]
+#[derive(Clone, Copy)]
 struct Going {
     tally: Tally,
     refused: bool,
@@ -34,123 +35,133 @@ fn tally_in(s: &[u8]) -> Tally {
 }
 
 // Writes a blank and a number.
-fn write_count(n: u32) {
-    write(b" ");
-    write_number(n as usize);
+fn write_count(rt: &impl Print, n: u32) -> io::Result<()> {
+    write(rt, b" ")?;
+    write_number(rt, n as usize)
 }
 
 // Writes the three numbers of a tally.
-fn write_tally(tally: Tally) {
-    write_count(tally.cycles);
-    write_count(tally.rejected);
-    write_count(tally.checked);
+fn write_tally(rt: &impl Print, tally: Tally) -> io::Result<()> {
+    write_count(rt, tally.cycles)?;
+    write_count(rt, tally.rejected)?;
+    write_count(rt, tally.checked)
 }
 
 // Writes a blank and a refusal.
-fn write_refused(cause: Cause) {
-    write(b" ");
-    write_refusal(cause.refusal());
+fn write_refused(rt: &impl Print, cause: Cause) -> io::Result<()> {
+    write(rt, b" ")?;
+    write_refusal(rt, cause.refusal())
 }
 
 // Starts a netlist and writes the answer and the tally.
-fn start(net: &[u16], latches: &mut [u64], tally: Tally) {
+fn start(rt: &impl Print, net: &[u16], latches: &mut [u64], tally: Tally) -> io::Result<()> {
     let started = simulator::start(net, latches, tally);
     let outcome = started.outcome;
-    write(b"; start");
+    write(rt, b"; start")?;
     match outcome {
         StartOutcome::Ready => {}
-        StartOutcome::Refused(cause) => write_refused(cause),
+        StartOutcome::Refused(cause) => write_refused(rt, cause)?,
     }
-    write_tally(started.tally);
+    write_tally(rt, started.tally)
 }
 
 // Writes a verdict byte as a number.
-fn write_digit(b: u8) {
-    write_number(b as usize);
+fn write_digit(rt: &impl Print, b: u8) -> io::Result<()> {
+    write_number(rt, b as usize)
 }
 
 // Writes the verdict bytes that a run stored, each as a number.
-fn write_verdicts(verdicts: &[u8]) {
+fn write_verdicts(rt: &impl Print, verdicts: &[u8]) -> io::Result<()> {
     let mut i = 0;
     while i < verdicts.len() {
         if verdicts[i] == FILL {
-            return;
+            return Ok(());
         }
-        write_digit(verdicts[i]);
+        write_digit(rt, verdicts[i])?;
         i += 1;
     }
+    Ok(())
 }
 
 // Writes the verdict of a run and its bytes.
-fn write_done(verdict: Verdict, verdicts: &[u8]) {
-    write(b" [");
-    write_verdicts(verdicts);
+fn write_done(rt: &impl Print, verdict: Verdict, verdicts: &[u8]) -> io::Result<()> {
+    write(rt, b" [")?;
+    write_verdicts(rt, verdicts)?;
     match verdict {
-        Verdict::Accepted => write(b"] accepted"),
-        Verdict::Rejected => write(b"] rejected"),
+        Verdict::Accepted => write(rt, b"] accepted"),
+        Verdict::Rejected => write(rt, b"] rejected"),
     }
 }
 
 // Writes what a run answered and left in its verdict buffer.
-fn write_outcome(outcome: RunOutcome, verdicts: &[u8]) {
+fn write_outcome(rt: &impl Print, outcome: RunOutcome, verdicts: &[u8]) -> io::Result<()> {
     match outcome {
-        RunOutcome::Done(verdict) => write_done(verdict, verdicts),
-        RunOutcome::Refused(cause) => write_refused(cause),
+        RunOutcome::Done(verdict) => write_done(rt, verdict, verdicts),
+        RunOutcome::Refused(cause) => write_refused(rt, cause),
     }
 }
 
 // Runs a trace and writes the answer and the tally, which it answers.
-fn run(net: &[u16], trace: &[u8], latches: &mut [u64], values: &mut [u64], before: Tally) -> Tally {
+fn run(
+    rt: &impl Print,
+    net: &[u16],
+    trace: &[u8],
+    latches: &mut [u64],
+    values: &mut [u64],
+    before: Tally,
+) -> io::Result<Tally> {
     let mut verdicts = [FILL; CYCLES];
     let ran = simulator::run(net, trace, latches, values, &mut verdicts, before);
     let outcome = ran.outcome;
     let tally = ran.tally;
-    write_outcome(outcome, &verdicts);
-    write_tally(tally);
-    tally
+    write_outcome(rt, outcome, &verdicts)?;
+    write_tally(rt, tally)?;
+    Ok(tally)
 }
 
 // Starts a netlist, puts in a tally, and runs one trace and then another, if there is one: the two fields at the front of
 // a text.
-fn write_both(net: &[u16], traces: &[u8], before: Tally) {
+fn write_both(rt: &impl Print, net: &[u16], traces: &[u8], before: Tally) -> io::Result<()> {
     let mut latches = [0u64; WORDS];
     let mut values = [0u64; WORDS];
-    start(net, &mut latches, before);
-    write(b"; run");
-    let tally = run(net, field(traces), &mut latches, &mut values, before);
+    start(rt, net, &mut latches, before)?;
+    write(rt, b"; run")?;
+    let tally = run(rt, net, field(traces), &mut latches, &mut values, before)?;
     let then = field(after(traces));
     if then.len() != 0 {
-        write(b"; then");
-        run(net, then, &mut latches, &mut values, tally);
+        write(rt, b"; then")?;
+        run(rt, net, then, &mut latches, &mut values, tally)?;
     }
+    Ok(())
 }
 
 // Steps a cycle and writes the answer.
 fn step(
+    rt: &impl Print,
     net: &[u16],
     cycle: &[u8],
     latches: &mut [u64],
     values: &mut [u64],
     before: Tally,
-) -> Going {
+) -> io::Result<Going> {
     let stepped = simulator::step(net, cycle, latches, values, before);
     let outcome = stepped.outcome;
     let tally = stepped.tally;
     match outcome {
         StepOutcome::Output(accept, checked) => {
-            write_word(b" ", accept);
-            write_word(b"/", checked);
-            Going {
+            write_word(rt, b" ", accept)?;
+            write_word(rt, b"/", checked)?;
+            Ok(Going {
                 tally,
                 refused: false,
-            }
+            })
         }
         StepOutcome::Refused(cause) => {
-            write_refused(cause);
-            Going {
+            write_refused(rt, cause)?;
+            Ok(Going {
                 tally,
                 refused: true,
-            }
+            })
         }
     }
 }
@@ -174,40 +185,41 @@ fn line_end(s: &[u8], at: usize) -> usize
 
 // Steps the lines of a trace, up to one that is refused: the tally.
 fn steps(
+    rt: &impl Print,
     net: &[u16],
     trace: &[u8],
     latches: &mut [u64],
     values: &mut [u64],
     before: Tally,
-) -> Tally {
+) -> io::Result<Tally> {
     let mut tally = before;
     let mut at = 0;
     while at < trace.len() {
         let end = line_end(trace, at);
-        let g = step(net, &trace[at..end], latches, values, tally);
+        let g = step(rt, net, &trace[at..end], latches, values, tally)?;
         tally = g.tally;
         if g.refused {
-            return tally;
+            return Ok(tally);
         }
         at = end + 1;
     }
-    tally
+    Ok(tally)
 }
 
 // Starts a netlist, puts in a tally, and steps the lines of a trace.
-fn write_steps(net: &[u16], trace: &[u8], before: Tally) {
+fn write_steps(rt: &impl Print, net: &[u16], trace: &[u8], before: Tally) -> io::Result<()> {
     let mut latches = [0u64; WORDS];
     let mut values = [0u64; WORDS];
     simulator::start(net, &mut latches, before);
-    write(b"; steps");
-    let tally = steps(net, trace, &mut latches, &mut values, before);
-    write_tally(tally);
+    write(rt, b"; steps")?;
+    let tally = steps(rt, net, trace, &mut latches, &mut values, before)?;
+    write_tally(rt, tally)
 }
 
 // Writes what a netlist does; `given` are the fields from the tally's on.
-pub(crate) fn write_runs(net: &[u16], given: &[u8]) {
+pub(crate) fn write_runs(rt: &impl Print, net: &[u16], given: &[u8]) -> io::Result<()> {
     let tally = tally_in(given);
     let traces = after_three(given);
-    write_both(net, traces, tally);
-    write_steps(net, field(traces), tally);
+    write_both(rt, net, traces, tally)?;
+    write_steps(rt, net, field(traces), tally)
 }

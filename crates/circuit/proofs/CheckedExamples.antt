@@ -13,7 +13,7 @@ use Rattle.assertion.specs.Graph.{Expr, signal, constant, truth, Edge, Name, Gra
 use Rattle.circuit.specs.Gates.{inv, gate}
 use Rattle.circuit.specs.Build.{first_edge_latch, first_gate, formula, happy_or, condemned_or, edge_piece, masked, gathered, judged, accepted, gates_of}
 use Rattle.circuit.specs.Checked.{checked_piece, gates_with, outputs_with}
-use Rattle.circuit.specs.Numbers.{operands, numbers_with}
+use Rattle.circuit.specs.Numbers.{numbers_with}
 use Rattle.circuit.specs.Count.{formula_gates, all_operators, gate_formula, gate_formula_with}
 
 -- names of one bit: `p`, `q`, `k`

@@ -1,5 +1,5 @@
 -- The monitor of a graph: document 01's section "Building", clause by clause. Assumes nothing.
-use Rattle.std.specs.Prelude.{ℕ, zero, suc, ◌+◌, ◌*◌, Bool, true, false, cond, List, [], ◌∷◌, ◌++◌, length, get_or, eqb}
+use Rattle.std.specs.Prelude.{ℕ, zero, suc, ◌+◌, ◌*◌, true, false, cond, List, [], ◌∷◌, ◌++◌, length, get_or, eqb}
 use Rattle.netlist.specs.Literals.{literal_of}
 use Rattle.assertion.specs.Graph.{Run, signals_from, constants_from, Expr, truth, signal, constant, neg, conj, disj, xor, same, alike, Edge, Graph, signal_bits, constant_bits, is_terminal}
 use Rattle.circuit.specs.Gates.{lit, inv, Gate, gate, Piece, and_of, or_of, xor_of, same_of, after}

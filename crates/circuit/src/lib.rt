@@ -3,3 +3,4 @@
 // numbers are a netlist, that the gates are as many as the formula says, where each gate of `==` and of checked
 // stands, that a lane of the circuit rejects exactly where some path of the graph does under that lane's setting, and
 // that its second output is high exactly where a rule is at stake under it.
+#![tactic(auto)]

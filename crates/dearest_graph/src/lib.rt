@@ -2,6 +2,8 @@
 // what it costs stands in dearest_text; this crate knows nothing of how a text is read or built. Exports that what is
 // written is accepted as that graph and costs 10E − 2 gates, and that no graph of as many edges and no operators costs
 // more: the clause `dearest` of `write`.
+#![tactic(auto)]
+
 ghost use Rattle.std.specs.Prelude.{◌≡◌, ℕ, take};
 ghost use Rattle.text.specs.Writer.{Wrote, joined};
 ghost use Rattle.dearest_text.specs.Dearest.{loop_line, dearest_text};
@@ -19,7 +21,7 @@ const VERTEX_LINE: usize = 4;
 const EDGE_LINE: usize = 12;
 
 // Why a graph is not written.
-#[derive(Drop)]
+#[derive(Clone, Copy)]
 pub enum Cause {
     // No edge, or more than 128.
     EdgesOutside,
@@ -27,7 +29,7 @@ pub enum Cause {
     ShortBuffer,
 }
 
-#[derive(Drop)]
+#[derive(Clone, Copy)]
 pub enum Written {
     // How many bytes the text has.
     Bytes(usize),

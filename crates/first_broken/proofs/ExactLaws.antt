@@ -33,8 +33,8 @@ module _ (width : ℕ) where
   abbrev Wrong : List ℕ → Type 0
   Wrong s = (c more : List ℕ) → is_cycle width c ≡ true → s ≡ c ++ (10 ∷ more) → ⊥
 
-  after_line : (c s : List ℕ) → is_cycle width c ≡ true → drop (width + 1) (c ++ (10 ∷ s)) ≡ s
-  after_line c s i =
+  after_line_lem : (c s : List ℕ) → is_cycle width c ≡ true → drop (width + 1) (c ++ (10 ∷ s)) ≡ s
+  after_line_lem c s i =
       let l = cycle-length width c i in
       rw (← append_assoc c (10 ∷ []) s) (drop_at (c ++ (10 ∷ [])) s (width + 1) (rw length-append (omega arith)))
 
@@ -48,7 +48,7 @@ module _ (width : ℕ) where
       let left = append_assoc c (10 ∷ lines_of b) r in
       let right = append_assoc x (10 ∷ lines_of d) q in
       let whole : c ++ (10 ∷ (lines_of b ++ r)) ≡ x ++ (10 ∷ (lines_of d ++ q)) = sym left ∙ e ∙ right in
-      let tails : lines_of b ++ r ≡ lines_of d ++ q = sym (after_line c (lines_of b ++ r) hb.0) ∙ ap (drop (width + 1)) whole ∙ after_line x (lines_of d ++ q) hd.0 in
+      let tails : lines_of b ++ r ≡ lines_of d ++ q = sym (after_line_lem c (lines_of b ++ r) hb.0) ∙ ap (drop (width + 1)) whole ∙ after_line_lem x (lines_of d ++ q) hd.0 in
       ap suc (meet b d r q hb.1 hd.1 tails wr wq)
 
   wrong-none : Wrong []
@@ -67,7 +67,7 @@ module _ (width : ℕ) where
   shorter (c ∷ b) (x ∷ d) r hb hd m e s =
       let left = append_assoc c (10 ∷ lines_of b) r in
       let right = append_assoc x (10 ∷ lines_of d) [] in
-      let tails : lines_of b ++ r ≡ lines_of d ++ [] = sym (after_line c (lines_of b ++ r) hb.0) ∙ ap (drop (width + 1)) (sym left ∙ e ∙ right) ∙ after_line x (lines_of d ++ []) hd.0 in
+      let tails : lines_of b ++ r ≡ lines_of d ++ [] = sym (after_line_lem c (lines_of b ++ r) hb.0) ∙ ap (drop (width + 1)) (sym left ∙ e ∙ right) ∙ after_line_lem x (lines_of d ++ []) hd.0 in
       shorter b d r hb.1 hd.1 (omega arith) tails s
 
   module _ (t : List ℕ) where

@@ -89,9 +89,9 @@ place-fits n width a b = let l : width + 1 ≤ 65 = omega arith in mul-le-mul a 
 
 -- ---- the search, a cycle at a time: n of so many are behind it
 module _ (f h : List ℕ) (cycles n : ℕ) where
-  pub turn_end : cycles ≤ n → broken_from (cycles - n) n f h ≡ Nowhere
+  pub turn_end_lem : cycles ≤ n → broken_from (cycles - n) n f h ≡ Nowhere
   unfolding broken_from
-  turn_end l = let e : cycles - n ≡ 0 = omega arith in rw e
+  turn_end_lem l = let e : cycles - n ≡ 0 = omega arith in rw e
 
   module _ (l : n < cycles) where
     more : cycles - n ≡ suc (cycles - (n + 1))

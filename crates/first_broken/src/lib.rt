@@ -2,6 +2,8 @@
 // line of the earliest rejected cycle, without its LF, as a part of the caller's own trace. Knows nothing of netlists
 // and graphs, nor of where the verdict bytes come from. Exports what each refusal means, the clause `checks` of `check`,
 // and which line it is, the clause `first` of `find` and of `first_broken`.
+#![tactic(auto)]
+
 ghost use Rattle.std.specs.Prelude.{◌≡◌};
 ghost use Rattle.first_broken.specs.Places.{part, found_of, broken_part};
 ghost use Rattle.first_broken.specs.Claims.{BrokenFirst, StandsIn};

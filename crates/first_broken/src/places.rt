@@ -6,7 +6,7 @@ ghost use Rattle.first_broken.specs.Claims.{BrokenFirst, FoundIn};
 use crate::refusal::{Checked, check};
 
 // The earliest rejected cycle, from 0, and whose it is.
-#[derive(Drop)]
+#[derive(Clone, Copy)]
 pub(crate) enum Broken {
     Nowhere,
     Flywheel(usize),
@@ -14,7 +14,7 @@ pub(crate) enum Broken {
 }
 
 // A part of the handle trace, or else of the flywheel trace.
-#[derive(Drop)]
+#[derive(Clone, Copy)]
 pub struct Found {
     pub handle: bool,
     pub at: usize,

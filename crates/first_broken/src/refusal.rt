@@ -13,7 +13,7 @@ const MAX_TRACE: usize = 1048576;
 // The most bytes of a line.
 const MAX_WIDTH: usize = 64;
 
-#[derive(Drop)]
+#[derive(Clone, Copy)]
 pub enum Cause {
     // A trace is over 1,048,576 bytes.
     TraceTooLong,
@@ -27,7 +27,7 @@ pub enum Cause {
     WrongVerdicts,
 }
 
-#[derive(Drop)]
+#[derive(Clone, Copy)]
 pub enum Checked {
     Fine,
     Refused(Cause),

@@ -8,29 +8,7 @@ use Rattle.text.specs.Quoted.{byte, bytes}
 use Rattle.text.specs.Numbers.{is_digit, leading_digits, value_from}
 use Rattle.formula.specs.declared.Class.TheVariants.{Other, OpeningSquare, ClosingSquare}
 use Rattle.formula.specs.Classes.{class_of, strength_of, is_letter, is_word_class, start_of, run, name_bytes, is_name}
-use Rattle.formula.specs.Grammar.{
-  name,
-  bit_of,
-  alike,
-  bit,
-  not,
-  group,
-  join,
-  and_then,
-  is_index,
-  index_of,
-  right_of,
-  name_of,
-  closed,
-  operand_of,
-  expression_of,
-  rest_of,
-  none,
-  tree,
-  whole,
-  tree_of,
-  depth_of,
-}
+use Rattle.formula.specs.Grammar.{name, bit_of, alike, bit, not, group, join, and_then, is_index, index_of, right_of, name_of, closed, expression_of, none, tree, whole, tree_of, depth_of}
 use Rattle.formula.specs.Reading.{name_word, bit_word, alike_word, byte_word, postfix, padded, answer_of, formula_of}
 
 -- n bytes `b`

@@ -161,7 +161,7 @@ module _ (s : List ℕ) where
 
   -- where no stronger operator follows, it is read as itself
   stops : (e : Tree) (at : ℕ) (rest : List ℕ) (k f : ℕ) → Ahead at e rest → Read e k at f → strength_of (get_or rest 0 0) ≤ k → expression_of f s k at ≡ got e (end at e)
-  stops e at rest k f a r h = r.is ∙ steps.rest-stops r.left s k e (end at e) (rw (after at e rest a) h)
+  stops e at rest k f a r h = r.is ∙ steps.rest_stops r.left s k e (end at e) (rw (after at e rest a) h)
 
   -- ---- names
 
@@ -189,7 +189,7 @@ module _ (s : List ℕ) where
 
   name-given : (at n : ℕ) (rest : List ℕ) (f : ℕ) (e : Tree) (to : ℕ) → NameAhead at n rest → 2 * (length s - at) ≤ f → name_of s at n ≡ got e to → operand_of f s at ≡ got e to
   name-given at n rest zero e to a l h = absurd (omega (arith, steps.starts s at Name (letter_starts _ a.letter) (omega arith)))
-  name-given at n rest (suc f) e to a l h = rw (steps.operand-name f s at (letter_starts _ a.letter), a.runs) h
+  name-given at n rest (suc f) e to a l h = rw (steps.operand_name f s at (letter_starts _ a.letter), a.runs) h
 
   bare-given : (at n : ℕ) (rest : List ℕ) → NameAhead at n rest → Apart rest → name_of s at n ≡ got (name at n) (at + n)
   unfolding name_of
@@ -248,7 +248,7 @@ module _ (s : List ℕ) where
   bit_operand b at rest zero a t l = absurd (omega (arith, within s at b _ a.text))
   bit_operand b at rest (suc f) a t l =
       let first : get_or s at 0 ≡ b = next-byte s at _ a.text in
-      steps.operand-bit f s at (ap start_of first ∙ bit-starts a.places) ∙ ap (λ (x : ℕ). got (bit x) (at + 1)) first
+      steps.operand_bit f s at (ap start_of first ∙ bit-starts a.places) ∙ ap (λ (x : ℕ). got (bit x) (at + 1)) first
 
   not_operand : (e : Tree) → IsOperand e → IsOperand (not e)
   unfolding IsOperand end written Grouped and_then
@@ -257,7 +257,7 @@ module _ (s : List ℕ) where
       let first : get_or s at 0 ≡ 33 = next-byte s at _ a.text in
       let inner : operand_of f s (at + 1) ≡ got e (at + 1 + length (written s e)) = h (at + 1) rest f (ahead_not at e rest a) a.groups.0 (omega (arith, within s at 33 _ a.text)) in
       let z : at + 1 + length (written s e) ≡ at + suc (length (written s e)) = omega arith in
-      rw (steps.operand-not f s at (not-starts _ first), inner, z)
+      rw (steps.operand_not f s at (not-starts _ first), inner, z)
 
   -- every formula holds together tighter than nothing
   binds : (e : Tree) (at : ℕ) → Placed s at e → 0 < binding_of e
@@ -280,7 +280,7 @@ module _ (s : List ℕ) where
       stops e (at + 1) (41 ∷ rest) 0 f i (h (at + 1) (41 ∷ rest) 0 f i (binds e (at + 1) i.places) (omega arith) (omega (arith, within s at 40 _ a.text))) (omega arith) in
       let last : get_or s (at + 1 + length (written s e)) 0 ≡ 41 = after (at + 1) e (41 ∷ rest) i in
       let z : at + 1 + length (written s e) + 1 ≡ at + suc (length (written s e ++ (41 ∷ []))) = omega (arith, length-append (written s e) (41 ∷ [])) in
-      rw (steps.operand-group f s at (group-starts _ first), inner, last, z)
+      rw (steps.operand_group f s at (group-starts _ first), inner, last, z)
 
   -- an operand by itself is a formula
   alone : (e : Tree) → binding_of e ≡ tightest → IsOperand e → IsRead e

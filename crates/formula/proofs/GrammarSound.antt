@@ -296,14 +296,14 @@ module _ (s : List ℕ) where
     where
       go : (x : Start) → start_of (get_or s at 0) ≡ x → Gives (Operand at) (operand_of (suc f) s at)
       go Not e =
-          rw (steps.operand-not f s at e)
+          rw (steps.operand_not f s at e)
           (then_gives (Operand (at + 1)) (Operand at) (operand_of f s (at + 1)) (λ e to. got (not e) to) (h.operand (at + 1) (omega (arith, steps.starts s at Not e (omega arith)))) (not-stands at e))
       go Group e =
-          rw (steps.operand-group f s at e)
+          rw (steps.operand_group f s at e)
           (then_gives (Expression 0 (at + 1)) (Operand at) (expression_of f s 0 (at + 1)) (closed s) (h.expression 0 (at + 1) (omega arith) (omega (arith, steps.starts s at Group e (omega arith)))) (group-stands at e))
-      go Bit e = rw (steps.operand-bit f s at e) (bit-stands at e)
-      go Name e = rw (steps.operand-name f s at e) (name-stands at e)
-      go Nothing e = rw (steps.operand-nothing (suc f) s at e) tt
+      go Bit e = rw (steps.operand_bit f s at e) (bit-stands at e)
+      go Name e = rw (steps.operand_name f s at e) (name-stands at e)
+      go Nothing e = rw (steps.operand_nothing (suc f) s at e) tt
 
   expression_given : (f k at : ℕ) → Given f → k < tightest → 2 * (length s - at) + 1 ≤ suc f → Gives (Expression k at) (expression_of (suc f) s k at)
   unfolding expression_of

@@ -4,12 +4,11 @@
 -- calls go; `tree_of` gives it more than enough. A name, one bit of a name and two names compared each stand
 -- as one operand. `Claims` says what a formula is without any reader.
 -- Assumes nothing.
-use Rattle.std.specs.Prelude.{ℕ, zero, suc, ◌+◌, ◌*◌, max, Bool, true, false, ◌&&◌, ◌||◌, List, [], ◌∷◌, ◌++◌, ltb, leb, eqb, length, get_or, drop}
+use Rattle.std.specs.Prelude.{ℕ, zero, suc, ◌+◌, ◌*◌, max, Bool, true, false, ◌&&◌, ◌||◌, List, ltb, leb, eqb, length, get_or, drop}
 use Rattle.std.proofs.Math.Bool as bool
 use Rattle.text.specs.Quoted.{byte}
 use Rattle.text.specs.Numbers.{leading_digits, value_from}
 use Rattle.formula.specs.Classes.{pick, class_of, is_letter, strength_of, start_of, run}
-use Rattle.formula.specs.declared.Start.{Start}
 use Rattle.formula.specs.declared.Start.TheVariants.{Not, Group, Bit, Name, Nothing}
 
 -- a name by its first place and its length; bit i of a name; two names compared; `0` or `1` by its byte;

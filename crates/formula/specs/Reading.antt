@@ -1,6 +1,6 @@
 -- What reading a field answers: whether it is a formula, its depth, and its operands and operators in
 -- postfix order, from which names are looked up and gates are made. Assumes nothing.
-use Rattle.std.specs.Prelude.{ℕ, ◌+◌, ◌*◌, ◌-◌, min, Bool, true, false, List, [], ◌∷◌, ◌++◌, length, replicate}
+use Rattle.std.specs.Prelude.{ℕ, ◌+◌, ◌*◌, ◌-◌, min, true, false, List, [], ◌∷◌, ◌++◌, length, replicate}
 use Rattle.text.specs.Quoted.{byte}
 use Rattle.formula.specs.Grammar.{Tree, name, bit_of, alike, bit, not, group, join, Parsed, none, tree, tree_of, depth_of}
 use Rattle.formula.specs.declared.Formula.{Formula}

@@ -3,6 +3,8 @@
 // in postfix order. Knows nothing of graphs, netlists or which names are declared. Exports that a field is
 // read as the one tree that it is the text of and that groups as the operators bind, or refused where
 // there is none.
+#![tactic(auto)]
+
 ghost use Rattle.std.specs.Prelude.{◌≡◌};
 ghost use Rattle.formula.specs.Grammar.{none};
 ghost use Rattle.formula.specs.Reading.{answer_of, formula_of};
@@ -16,7 +18,7 @@ pub use classes::{class_of, is_name, name_end, strength};
 use readers::Read;
 
 // The class of a byte.
-#[derive(Drop)]
+#[derive(Clone, Copy)]
 pub enum Class {
     Other,
     Letter,
@@ -32,7 +34,7 @@ pub enum Class {
 }
 
 // What an operand is, by its first byte.
-#[derive(Drop)]
+#[derive(Clone, Copy)]
 pub enum Start {
     Not,
     Group,

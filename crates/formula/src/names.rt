@@ -12,7 +12,7 @@ use crate::classes::{LONGEST_NAME, is_letter, name_end};
 use text::byte_at;
 
 // What a name and what belongs to it are: of no such form; or a word, and the place after it.
-#[derive(Drop)]
+#[derive(Clone, Copy)]
 pub enum Word {
     Wrong,
     Formed { next: usize, word: u32 },
@@ -33,7 +33,7 @@ const LEFT: u32 = 4096;
 const WIDEST: u32 = 16;
 
 // The digits at a place: whether they are an index, its number, cut at 16, and the place after them.
-#[derive(Drop)]
+#[derive(Clone, Copy)]
 struct Index {
     formed: bool,
     value: u32,

@@ -14,7 +14,7 @@ use text::byte_at;
 
 // What a reader finds at a place: no such form; or the form, with the place after it, the place after its
 // words, and its depth.
-#[derive(Drop)]
+#[derive(Clone, Copy)]
 pub enum Read {
     Failed,
     Done {

@@ -33,6 +33,7 @@ use Rattle.graph.proofs.UnseenLaws.{unseen}
 
 -- ---- all edges of a list, by index
 all-at : (es : List Edge) (d : Edge) → ((j : ℕ) → j < length es → (get_or es j d).marked ≡ false) → (f : Edge) → Memᴰ f es → f.marked ≡ false
+all-at [] d h f x' = elim x' [ ]
 all-at (e ∷ es) d h f (Memᴰ.head q) = ap (λ (x : Edge). x.marked) q ∙ h 0 (omega arith)
 all-at (e ∷ es) d h f (Memᴰ.tail m) = all-at es d (λ j l. h (suc j) (omega arith)) f m
 

@@ -1,5 +1,5 @@
 -- An edge's antecedent stands behind the first four fields of its line. Assumes nothing.
-use Prim.Native.Nat.{ℕ, zero, suc, ◌+◌, ◌-◌, ◌≤◌, ◌<◌}
+use Prim.Native.Nat.{ℕ, zero, suc, ◌+◌, ◌≤◌, ◌<◌}
 use mathlib.Core.Path.{◌≡◌, refl, sym, ap, ◌∙◌}
 use mathlib.Core.Bool.{Bool, true, false}
 use mathlib.Core.List.{[], ◌∷◌, ◌++◌, append_assoc}
@@ -71,8 +71,8 @@ module _ (line : Bytes) (h : EdgeFields line) where
       let t3 = field-left line 3 (h.mark ∷ []) h.antecedent _ t2.2 in
       (t3.1, t3.2, t1.0, t2.0)
 
-  pub fits_line : field_start line 4 ≤ length line
-  fits_line = chain.0
+  pub fits_line_lem : field_start line 4 ≤ length line
+  fits_line_lem = chain.0
 
   whole : line ≡ 69 ∷ 9 ∷ (h.from ++ (9 ∷ (h.to ++ (9 ∷ h.mark ∷ 9 ∷ rest))))
   whole = six_pieces 9 line h.are

@@ -78,6 +78,7 @@ module _ (ss cs : List Name) where
 -- a vertex of a list is found in it
 pub place_inside : (n : Bytes) (vs : List Bytes) → Memᴰ n vs → place_of n vs < length vs
 unfolding place_of
+place_inside n [] x' = elim x' [ ]
 place_inside n (v ∷ vs) (Memᴰ.head e) = rw (← e, same_self n, place_of) (omega arith)
 place_inside n (v ∷ vs) (Memᴰ.tail m) = by (same n v) (place_inside n vs m)
   where
@@ -88,6 +89,7 @@ place_inside n (v ∷ vs) (Memᴰ.tail m) = by (same n v) (place_inside n vs m)
 -- with its bytes
 pub place-finds : (n : Bytes) (vs : List Bytes) → Memᴰ n vs → get_or vs (place_of n vs) [] ≡ n
 unfolding place_of
+place-finds n [] x' = elim x' [ ]
 place-finds n (v ∷ vs) (Memᴰ.head e) = rw (← e, same_self n, place_of)
 place-finds n (v ∷ vs) (Memᴰ.tail m) = by (same n v) refl (place-finds n vs m)
   where

@@ -56,7 +56,7 @@ use Rattle.graph.specs.declared.Judged.TheVariants.{Fine, Faulty}
 use Rattle.graph.specs.Claims.{FormulaAt, FormulaSound, EdgeSound, Sound}
 use Rattle.graph.proofs.PieceLaws.{split-some}
 use Rattle.graph.proofs.BreakLaws.{line-inside, breaks-from}
-use Rattle.graph.proofs.EdgeLineLaws.{fits_line, edge-behind}
+use Rattle.graph.proofs.EdgeLineLaws.{fits_line_lem, edge-behind}
 use Rattle.graph.proofs.ModeLineLaws.{mode_said}
 use Rattle.graph.proofs.FieldLaws.{EdgeFields, SymbolFields, NameAt, Fits, line-fits, two-left}
 use Rattle.graph.proofs.BitLaws.{bits-append, bits-more, bits-some, each_left, each_both, placed-more, symbol-back}
@@ -549,7 +549,7 @@ sound text {graph} h =
           let n = first + named_of graph + length graph.vertices in
           let z : records_of graph - (n + i) ≡ length graph.edges - i = omega arith in
           rw (arc_at i l)
-          (breaks-from text (records_of graph) w.inside w.over (n + i) _ (omega arith) (fits_line (line_of text (n + i)) (edges-fields text graph.signals graph.constants graph.vertices n graph.edges i g.edges l)) ∙ z);
+          (breaks-from text (records_of graph) w.inside w.over (n + i) _ (omega arith) (fits_line_lem (line_of text (n + i)) (edges-fields text graph.signals graph.constants graph.vertices n graph.edges i g.edges l)) ∙ z);
     }
 
 -- a formula's bytes stand within the text

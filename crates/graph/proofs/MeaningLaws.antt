@@ -21,7 +21,7 @@ use Rattle.graph.specs.Pieces as pieces
 use Rattle.graph.specs.Reading.{found_at, known, fits, joined, symbol, run_of, resolved}
 use Rattle.graph.specs.Meaning.{EachWidth, Named, bit_in, Means}
 use Rattle.graph.specs.Meaning.Named.{a_signal, a-constant}
-use Rattle.graph.specs.Meaning.Means.{one_bit, bit_of, compared, is_zero, is_one, inverted, bracketed, both, some, just_one, both-alike}
+use Rattle.graph.specs.Meaning.Means.{one_bit, bit_at_index, compared, is_zero, is_one, inverted, bracketed, both, some, just_one, both-alike}
 use Rattle.graph.specs.declared.FoundName.{FoundName}
 use Rattle.graph.proofs.SplitLaws.{same_equal}
 use Rattle.graph.proofs.BitLaws.{bits-append, each_right}
@@ -145,7 +145,7 @@ module _ (ss cs : List Name) (wide : EachWidth (ss ++ cs)) where
     bit-means p n i k f =
         let o = ltb-true i (found_at ns s p n).width f in
         let l = located (take n (drop p s)) k in
-        rw (l.bits i o) (bit_of p n i (found_at ns s p n).width l.run l.named o)
+        rw (l.bits i o) (bit_at_index p n i (found_at ns s p n).width l.run l.named o)
 
     alike-means : (p n q m : ℕ) → (found_at ns s p n).known ≡ true → (found_at ns s q m).known ≡ true → eqb (found_at ns s p n).width (found_at ns s q m).width ≡ true → Means ss cs s (tree.alike p n q m) (G.alike (run_of (bits_of ss) (found_at ns s p n).place) (run_of (bits_of ss) (found_at ns s q m).place) (found_at ns s p n).width)
     alike-means p n q m k j f =
@@ -170,6 +170,7 @@ module _ (ss cs : List Name) (wide : EachWidth (ss ++ cs)) where
     digit-means : (b : ℕ) → Memᴰ b (48 ∷ 49 ∷ []) → Means ss cs s (bit b) (truth (eqb b 49))
     digit-means b (Memᴰ.head e) = rw e is_zero
     digit-means b (Memᴰ.tail (Memᴰ.head e)) = rw e is_one
+    digit-means b (Memᴰ.tail (Memᴰ.tail x')) = elim x' [ ]
 
     -- THE LAW
     pub meaning : (e : Tree) → InField s e → known ns s e ≡ true → fits ns s e ≡ true → Means ss cs s e (resolved (bits_of ss) ns s e)

@@ -31,9 +31,9 @@ module _ (text name : Bytes) (starts : List ℕ) (count k : ℕ) (h : count ≤ 
       let i : k < length (take count starts) = rw (length-take-le count starts h) l in
       rw (drop-cons (take count starts) k 0 i, get_or-take count starts k 0 l, ← o, ← r, f, place_of, add-one)
 
-  pub place_end : count ≤ k → place_of name (points text (drop k (take count starts))) ≡ 0
+  pub place_end_lem : count ≤ k → place_of name (points text (drop k (take count starts))) ≡ 0
   unfolding place_of
-  place_end l =
+  place_end_lem l =
       let i : length (take count starts) ≤ k = rw (length-take-le count starts h) l in
       rw (drop_of_length-le (take count starts) i)
 

@@ -15,7 +15,7 @@ use Rattle.graph.specs.Pieces.{same, Declared, placed, look_up_name}
 use Rattle.graph.specs.Reading.{known, fits, joined, symbol, run_of, resolved}
 use Rattle.graph.specs.Meaning.{EachWidth, Named, bit_in, Means}
 use Rattle.graph.specs.Meaning.Named.{a_signal, a-constant}
-use Rattle.graph.specs.Meaning.Means.{one_bit, bit_of, compared, is_zero, is_one, inverted, bracketed, both, some, just_one, both-alike}
+use Rattle.graph.specs.Meaning.Means.{one_bit, bit_at_index, compared, is_zero, is_one, inverted, bracketed, both, some, just_one, both-alike}
 use Rattle.graph.specs.declared.FoundName.{FoundName}
 use Rattle.graph.proofs.SplitLaws.{same_equal, same_self}
 use Rattle.graph.proofs.BitLaws.{bits-append}
@@ -89,7 +89,7 @@ module _ (ss cs : List Name) where
     means-resolves (one_bit p n r h) =
         let f = named-found h in
         record { names-known = f.is_known; widths_fit = rw f.width_is; is = ap (symbol (bits_of ss)) (sym (add-zero _)) ∙ bit_found h 0 (omega arith) }
-    means-resolves (bit_of p n i w r h k) =
+    means-resolves (bit_at_index p n i w r h k) =
         let f = named-found h in
         record { names-known = f.is_known; widths_fit = rw f.width_is (lt-ltb i w k); is = bit_found h i k }
     means-resolves (compared p n q m w a b h k) =

@@ -10,7 +10,7 @@ use lib.ListN.{length}
 use Rattle.text.specs.Lines.{StartsLine}
 use Rattle.formula.specs.Classes.{is_name}
 use Rattle.assertion.specs.Graph.{Bytes, Graph}
-use Rattle.graph.specs.Pieces.{split, same, place_of, look_up}
+use Rattle.graph.specs.Pieces.{same, place_of, look_up}
 use Rattle.graph.specs.Records.{vertex, named, record_of}
 use Rattle.graph.specs.Reading.{went, add_vertex, add, accepted, graph_of}
 use Rattle.graph.proofs.SplitLaws.{split-whole, same_equal}

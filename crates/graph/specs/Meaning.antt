@@ -30,7 +30,7 @@ bit_in (constants_from j) i = constant (j + i)
 -- "`left==right` compares two names of equal width"
 pub data Means (ss cs : List Name) (s : Bytes) : Tree → Expr → Type 0 where
   one_bit : (p n : ℕ) (r : Run) → Named ss cs (take n (drop p s)) r 1 → Means ss cs s (name p n) (bit_in r 0)
-  bit_of : (p n i w : ℕ) (r : Run) → Named ss cs (take n (drop p s)) r w → i < w → Means ss cs s (bit_of p n i) (bit_in r i)
+  bit_at_index : (p n i w : ℕ) (r : Run) → Named ss cs (take n (drop p s)) r w → i < w → Means ss cs s (bit_of p n i) (bit_in r i)
   compared : (p n q m w : ℕ) (a b : Run) → Named ss cs (take n (drop p s)) a w → Named ss cs (take m (drop q s)) b w → Means ss cs s (tree.alike p n q m) (alike a b w)
   is_zero : Means ss cs s (bit (byte "0")) (truth false)
   is_one : Means ss cs s (bit (byte "1")) (truth true)

@@ -2,6 +2,8 @@
 // graph and a rejecting path are stands in assertion. Knows nothing of netlists. Exports that the graph of an
 // accepted text keeps to the limits, that its names and formulas stand where the checked graph says, what each
 // formula means, and what `M` lines, marks, widths and the names of formulas make of it.
+#![tactic(auto)]
+
 ghost use Rattle.std.specs.Prelude.{◌≡◌, ◌+◌, ◌≤◌, length};
 ghost use Rattle.assertion.specs.Graph.{Bytes, Graph};
 ghost use Rattle.graph.specs.Pieces.{end_at};
@@ -29,7 +31,7 @@ pub use pieces::part;
 const LONGEST_TEXT: usize = 32768;
 
 // Why a line is refused.
-#[derive(Drop)]
+#[derive(Clone, Copy)]
 pub enum Fault {
     // Of no record's shape, or without its LF.
     WrongShape,
@@ -52,14 +54,14 @@ pub enum Fault {
 }
 
 // What judging a formula finds.
-#[derive(Drop)]
+#[derive(Clone, Copy)]
 pub enum Judged {
     Fine,
     Faulty(Fault),
 }
 
 // Why a graph text is refused.
-#[derive(Drop)]
+#[derive(Clone, Copy)]
 pub enum Cause {
     // Over 32,768 bytes.
     TextTooLong,
@@ -69,14 +71,14 @@ pub enum Cause {
 }
 
 // What looking up a vertex answers: whether it is known, and its place.
-#[derive(Drop)]
+#[derive(Clone, Copy)]
 pub struct Found {
     pub known: bool,
     pub place: usize,
 }
 
 // What looking up a signal or a constant answers: whether it is known, the place of its first bit, and its width.
-#[derive(Drop)]
+#[derive(Clone, Copy)]
 pub struct FoundName {
     pub known: bool,
     pub place: usize,
@@ -85,7 +87,7 @@ pub struct FoundName {
 
 // An edge: its vertices, whether it is terminal, and where its antecedent and its consequent stand in the
 // text, with their lengths. Until all lines are read, the edges with the mark count as terminal.
-#[derive(Drop)]
+#[derive(Clone, Copy)]
 pub struct Arc {
     pub from: usize,
     pub to: usize,
@@ -100,7 +102,7 @@ pub struct Arc {
 // constants have; how many vertices and edges there are; the signals and then the constants, each as a word of
 // where its name starts in the text, its length, the place of its first bit and its width; where the names of the
 // vertices start in the text; and the edges.
-#[derive(Drop)]
+#[derive(Clone, Copy)]
 pub struct CheckedGraph {
     pub mode: Mode,
     pub named: usize,
@@ -113,21 +115,21 @@ pub struct CheckedGraph {
     pub arcs: [Arc; 128],
 }
 
-#[derive(Drop)]
+#[derive(Clone, Copy)]
 pub enum ReadOutcome {
     Checked,
     Refused(Cause),
 }
 
 // What reading a graph text answers; a refusal has the graph of no line.
-#[derive(Drop)]
+#[derive(Clone, Copy)]
 pub struct GraphRead {
     pub outcome: ReadOutcome,
     pub graph: CheckedGraph,
 }
 
 // What a line is: of no record's shape; or a record, by the places in the line where its fields start.
-#[derive(Drop)]
+#[derive(Clone, Copy)]
 enum Shape {
     Wrong,
     Moded(Mode),
@@ -152,7 +154,7 @@ enum Shape {
 }
 
 // What a record's step answers: its fault with the graph as it was, or the graph with it.
-#[derive(Drop)]
+#[derive(Clone, Copy)]
 struct Added {
     judged: Judged,
     graph: CheckedGraph,

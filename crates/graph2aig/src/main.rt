@@ -1,13 +1,12 @@
 // The program that prints AIGER in the binary format. Standard input holds a graph; standard output gets the AIGER file of
 // its monitor, or the refusal. What is printed is the page of `page::packed_page`.
+#![tactic(auto)]
+
 ghost use Rattle.std.specs.Prelude.{◌≡◌, List, ℕ, ◌≤◌, length, take};
 ghost use Rattle.page.specs.Pages.{packed_text};
 
 use page::Paged;
-
-const STDIN: i32 = 0;
-
-const STDOUT: i32 = 1;
+use std::io;
 
 // One byte more than a graph may have: what is longer is refused, and no more of it is read.
 const INPUT: usize = 32769;
@@ -29,10 +28,10 @@ fn page_of(input: &[u8], n: usize, out: &mut [u8]) -> usize
     }
 }
 
-fn main() {
+fn main(rt: HostRuntime) -> io::Result<()> {
     let mut input = [0u8; INPUT];
     let mut out = [0u8; PAGE];
-    let n = io::read_full(STDIN, &mut input);
+    let n = stream::read_full(&mut rt.stdin(), &mut input)?;
     let end = page_of(&input, n, &mut out);
-    io::write_all(STDOUT, &out[..end]);
+    rt.write_all(&out[..end])
 }

@@ -2,12 +2,11 @@
 //
 // A case is a line with its length in bytes, a tab and its label, and then that many bytes of graph text.
 // cases.py writes the cases and, by hand, what document 01 says of each.
+#![tactic(auto)]
+
 use graph::{GraphRead, ReadOutcome};
+use std::io;
 use text::{Line, Number, Refusal};
-
-const STDIN: i32 = 0;
-
-const STDOUT: i32 = 1;
 
 // Appends a tab and a number.
 fn put_field(out: &mut [u8], at: usize, n: usize) -> usize {
@@ -44,60 +43,62 @@ fn put_answer(out: &mut [u8], at: usize, r: GraphRead) -> usize {
 }
 
 // Writes the first bytes of a buffer.
-fn write_front(out: &[u8], end: usize) {
+fn write_front(rt: &impl Print, out: &[u8], end: usize) -> io::Result<()> {
     if end <= out.len() {
-        io::write_all(STDOUT, &out[0..end]);
+        rt.write_all(&out[0..end])?;
     }
+    Ok(())
 }
 
 // Writes the line of one case.
-fn write_case(label: &[u8], graph: &[u8]) {
+fn write_case(rt: &impl Print, label: &[u8], graph: &[u8]) -> io::Result<()> {
     let mut out = [0u8; 256];
     let answer = graph::read_graph(graph);
     let p1 = text::put_bytes(&mut out, 0, label);
     let p2 = put_answer(&mut out, p1, answer);
     let end = text::put_byte(&mut out, p2, b'\n');
-    write_front(&out, end);
+    write_front(rt, &out, end)
 }
 
 // The case at a place: the place after it, or the same place where there is none.
-fn one_case(input: &[u8], at: usize) -> usize {
+fn one_case(rt: &impl Print, input: &[u8], at: usize) -> io::Result<usize> {
     let Number::Read(length, tab) = text::read_number(input, at) else {
-        return at;
+        return Ok(at);
     };
     let Line::Ended(end) = text::line_at(input, tab) else {
-        return at;
+        return Ok(at);
     };
     if end <= tab {
-        return at;
+        return Ok(at);
     }
     if input.len() <= end {
-        return at;
+        return Ok(at);
     }
     let label = tab + 1;
     let start = end + 1;
     if input.len() - start < length {
-        return at;
+        return Ok(at);
     }
     let next = start + length;
-    write_case(&input[label..end], &input[start..next]);
-    next
+    write_case(rt, &input[label..end], &input[start..next])?;
+    Ok(next)
 }
 
 // All cases.
-fn cases(input: &[u8]) {
+fn cases(rt: &impl Print, input: &[u8]) -> io::Result<()> {
     let mut at = 0;
     while at < input.len() {
-        let next = one_case(input, at);
+        let next = one_case(rt, input, at)?;
         if next <= at {
-            return;
+            return Ok(());
         }
         at = next;
     }
+    Ok(())
 }
 
-fn main() {
+fn main(rt: HostRuntime) -> io::Result<()> {
     let mut input = [0u8; 131072];
-    let n = io::read_full(STDIN, &mut input);
-    cases(&input[..n]);
+    let n = stream::read_full(&mut rt.stdin(), &mut input)?;
+    cases(&rt, &input[..n])
 }

@@ -37,12 +37,14 @@ digits-field n = record { no_tab = digits-without 9 refl (digits n) (each-digits
 bit_late : {b : ℕ} → Memᴰ b (bytes "01") → 10 < b
 bit_late (Memᴰ.head e) = omega arith
 bit_late (Memᴰ.tail (Memᴰ.head e)) = omega arith
+bit_late (Memᴰ.tail (Memᴰ.tail x')) = elim x' [ ]
 
 operator_late : {b : ℕ} → Memᴰ b operators → 10 < b
 operator_late (Memᴰ.head e) = omega arith
 operator_late (Memᴰ.tail (Memᴰ.head e)) = omega arith
 operator_late (Memᴰ.tail (Memᴰ.tail (Memᴰ.head e))) = omega arith
 operator_late (Memᴰ.tail (Memᴰ.tail (Memᴰ.tail (Memᴰ.head e)))) = omega arith
+operator_late (Memᴰ.tail (Memᴰ.tail (Memᴰ.tail (Memᴰ.tail x')))) = elim x' [ ]
 
 written-field : (s : Bytes) (at : ℕ) (e : Tree) → Placed s at e → IsField (written s e)
 unfolding written Placed

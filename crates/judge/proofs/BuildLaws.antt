@@ -50,10 +50,10 @@ module _ (room : List ℕ) (enough : 8194 ≤ length room) where
 
   -- ---- a build that is refused
   module _ {A : Type 0} (accept : Graph → A) (refuse : Cause → A) (cause : Cause) where
-    refused_as : (o : Outcome) → (build_as false o room).answer ≡ Refused cause → graph_end accept refuse o ≡ refuse cause
+    refused_as_lem : (o : Outcome) → (build_as false o room).answer ≡ Refused cause → graph_end accept refuse o ≡ refuse cause
     unfolding build_as graph_end
-    refused_as (refused c) e = let q : GraphText c ≡ cause = cc in ap refuse q
-    refused_as (accepted g) e = go (leb (variables_of false g) 4095) refl (leb (length (numbers_of g)) (length room)) refl e
+    refused_as_lem (refused c) e = let q : GraphText c ≡ cause = cc in ap refuse q
+    refused_as_lem (accepted g) e = go (leb (variables_of false g) 4095) refl (leb (length (numbers_of g)) (length room)) refl e
       where
         go : (a : Bool) → leb (variables_of false g) 4095 ≡ a → (b : Bool) → leb (length (numbers_of g)) (length room) ≡ b
             → (ends g a b).answer ≡ Refused cause → cond a (accept g) (refuse TooManyVariables) ≡ refuse cause
@@ -66,7 +66,7 @@ module _ (room : List ℕ) (enough : 8194 ≤ length room) where
 
     pub build_refused : (text : Bytes) → (build_of false text room).answer ≡ Refused cause → graph_end accept refuse (graph_of text) ≡ refuse cause
     unfolding build_of
-    build_refused text e = refused_as (graph_of text) e
+    build_refused text e = refused_as_lem (graph_of text) e
 
   -- ---- a build that is accepted: the graph of its text, and the numbers that it leaves
   pub record Made (text : Bytes) : Type 0 where

@@ -104,9 +104,9 @@ module _ (net trace : List ℕ) (netlist : is_netlist net ≡ true) (lent values
       )
 
   -- ---- of the tests before the run those of the trace and of the verdict buffer can fail
-  has_room : is_short trace ≡ true → has_room cleared lines ≡ true
+  has_room_lem : is_short trace ≡ true → has_room cleared lines ≡ true
   unfolding is_short
-  has_room short =
+  has_room_lem short =
       let two : lines * 2 ≤ lines * (input_count net + 1) = mul-le-mul_left lines (omega (arith, held.some)) in
       let most : lines ≤ 1048576 = omega (arith, two, lines_fit (input_count net) trace, leb-true (length trace) 1048576 short) in
       fits-room cleared lines (omega arith, omega arith, omega arith)
@@ -131,7 +131,7 @@ module _ (net trace : List ℕ) (netlist : is_netlist net ≡ true) (lent values
           (cond (not (has_room cleared lines)) (Failed FullTally)
           Passed)))
           ≡ judged_as s (eqb fault 0) (leb lines (length bytes))
-      go true h = rw (has_room h)
+      go true h = rw (has_room_lem h)
       go false h = refl
 
   run-checked : run_check net trace (length latches) (length values) (length bytes) tally ≡ judged_as (is_short trace) (eqb fault 0) (leb lines (length bytes))

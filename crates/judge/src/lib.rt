@@ -1,6 +1,8 @@
 // The judgement of a trace by a graph text: its monitor is built, started and run over the trace, with a verdict byte
 // for each cycle. Knows nothing of how a judgement is printed. Exports that the answer and the bytes are those that
 // settings and paths give, without the monitor: the clause `judges` of `judge`.
+#![tactic(auto)]
+
 ghost use Rattle.std.specs.Prelude.{◌≡◌};
 ghost use Rattle.assertion.specs.Paths.{PathsMean};
 ghost use Rattle.judge.specs.Judge.{refusal_of, judge_end, judge_of};
@@ -22,7 +24,7 @@ const MAX_LATCHES: usize = 4094;
 const MAX_VALUES: usize = 4096;
 
 // Why a judgement is refused.
-#[derive(Drop)]
+#[derive(Clone, Copy)]
 pub enum Cause {
     // What build refuses of the graph text.
     Graph(builder::Cause),
@@ -31,7 +33,7 @@ pub enum Cause {
 }
 
 // What a judgement answers.
-#[derive(Drop)]
+#[derive(Clone, Copy)]
 pub enum Judged {
     // The tally and the verdict; the verdict bytes of the cycles stand first in the buffer.
     Done(Tally, Verdict),

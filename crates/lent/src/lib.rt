@@ -2,6 +2,8 @@
 // a refusal leaves it as it was. Knows nothing of what netlists, cycles and traces mean: each function
 // calls the simulator's of its name with a copy of the tally and stores the tally of the answer. Exports
 // that answer, tally and buffers are those that the simulator's definitions give.
+#![tactic(auto)]
+
 ghost use Rattle.std.specs.Prelude.{◌≡◌};
 ghost use Rattle.simulator.specs.Start.{start_end, start_of};
 ghost use Rattle.simulator.specs.Step.{step_end, step_of};

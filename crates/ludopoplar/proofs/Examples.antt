@@ -1,5 +1,5 @@
--- What the calls that write a graph return and leave, in digits, where `was` stood behind the pointer: for every input, and
--- worked. Assumes nothing.
+-- What the calls that write a graph, and those of a bench, return and leave, in digits: for every input, and worked. Of the
+-- former `was` stood behind the pointer. Assumes nothing.
 use Prim.Native.Nat.{ℕ, ◌+◌, ◌*◌, ◌^◌, ◌<◌, ◌≤◌}
 use mathlib.Core.Path.{◌≡◌, refl, ap}
 use mathlib.Core.Bool.{cond}
@@ -13,9 +13,15 @@ use Rattle.dearest_graph.proofs.WriteLaws as loops
 use Rattle.buffer_text.specs.Text.{buffer_text}
 use Rattle.buffer_graph.specs.Write as buffer
 use Rattle.buffer_graph.proofs.WriteLaws as counts
+use Rattle.bench_turns.specs.Add.{add_as, add_of}
+use Rattle.bench_turns.specs.Turn as turns
+use Rattle.bench_turns.specs.Turn.{serve, turn_of}
+use Rattle.bench_turns.specs.Session.{Bench}
+use Rattle.bench_turns.proofs.TestedLaws.{AddTested, add_tested, TurnTested, turn_tested}
 use Rattle.ludopoplar.specs.Codes.{code_of}
 use Rattle.ludopoplar.specs.Circuits.{Filled}
 use Rattle.ludopoplar.specs.Graphs.{dearest_as, dearest_graph_call, buffer_as, buffer_graph_call}
+use Rattle.ludopoplar.specs.Benches.{add_call_end, add_code, add_call, turn_call_end, turn_as, turn_call}
 
 -- ---- the dearest graph
 module _ (edges : ℕ) (text : List ℕ) (was : ℕ) where
@@ -61,3 +67,17 @@ module _ (strokes : ℕ) (text : List ℕ) (was : ℕ) where
     buffer-written : due ≤ length text → buffer_graph_call strokes text was ≡ record { code = 0; buffer = buffer_text strokes ++ drop due text; result = due }
     unfolding buffer_graph_call buffer_as
     buffer-written l = ap buffer_end (counts.written strokes text some few l)
+
+-- ---- a bench: a refused call leaves its buffers and results as they were, an idle turn all but the machine's number
+every-add : (nets : List ℕ) (b : Bench) (machine : ℕ) (cycle : List ℕ) →
+    let e = add_call nets b.latches b.queues b.numbers machine cycle in
+    AddTested nets b machine cycle (e.code ≡ 0) (λ cause number line. e ≡ add_call_end (number * 2 ^ 32 + line) b.queues b.numbers)
+unfolding add_call add_code code_of add_of add_as
+every-add nets b machine cycle = add_tested nets b machine cycle _ _ (λ e. rw e refl) (λ cause e. rw e refl)
+
+every_turn : (nets : List ℕ) (b : Bench) (values : List ℕ) (served word second : ℕ) →
+    let e = turn_call nets b.latches values b.queues b.numbers served word second in
+    TurnTested nets b values (e ≡ turn_call_end 0 b.latches values b.queues b.numbers 8 word second) (λ k. (e.code ≡ 0) × (e.served ≡ k))
+    (λ cause number line. e ≡ turn_call_end (number * 2 ^ 32 + line) b.latches values b.queues b.numbers served word second)
+unfolding turn_call turn_as code_of turn_of turns.turn_as serve
+every_turn nets b values served word second = turn_tested nets b values _ _ _ (λ e i. rw (e, i) refl) (λ e i. rw (e, i) (refl, refl)) (λ cause e. rw e refl)

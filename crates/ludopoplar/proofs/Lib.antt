@@ -5,4 +5,5 @@ mod SessionLaws
 mod PageLaws
 mod FileLaws
 mod CallLaws
+mod BenchLaws
 mod Examples

@@ -36,6 +36,9 @@ use Rattle.dearest_graph.specs.Write as dearest_graph
 use Rattle.buffer_graph.specs.declared.Cause as buffer
 use Rattle.buffer_graph.specs.declared.Cause.TheVariants as counts
 use Rattle.buffer_graph.specs.Write as buffer_graph
+use Rattle.bench_turns.specs.declared.Cause as bench
+use Rattle.bench_turns.specs.declared.Cause.TheVariants as turned
+use Rattle.bench_turns.specs.Refusals as turns
 use Rattle.ludopoplar.specs.Codes.{code_of}
 use Rattle.ludopoplar.specs.Claims.{Numbered}
 
@@ -113,6 +116,15 @@ buffers : (cause : buffer.Cause) → 1 ≤ (buffer_graph.refusal_of cause).numbe
 unfolding buffer_graph.refusal_of
 buffers counts.StrokesOutside = omega arith
 buffers counts.ShortBuffer = omega arith
+
+pub bench-refuses : (cause : bench.Cause) → 1 ≤ (turns.refusal_of cause).number
+unfolding turns.refusal_of
+bench-refuses turned.NoMachine = omega arith
+bench-refuses turned.NotBench = omega arith
+bench-refuses turned.FullQueue = omega arith
+bench-refuses turned.WrongCycle = omega arith
+bench-refuses turned.ShortBuffer = omega arith
+bench-refuses turned.FullTally = omega arith
 
 number-back : (r : Refusal) → r.line < 4294967296 → code_of r / 4294967296 ≡ r.number
 unfolding code_of

@@ -3,6 +3,7 @@ pub mod Codes
 pub mod Circuits
 pub mod Runs
 pub mod CheckedRuns
+pub mod Benches
 pub mod Rates
 pub mod Sessions
 pub mod Pages

@@ -15,7 +15,7 @@ use simulator::{RunOutcome, StartOutcome, StepOutcome};
 pub extern "C" fn ludo_build_checked(graph: &[u8], net: &mut [u16], gates: &mut u64) -> u64
     ensures gates_after { filled result net.new gates.new ≡ build_checked_call graph.now net.old gates.old }
     ensures demand { result ≡ 0 → CallBuilds true graph.now net.old net.new gates.new }
-    ensures* answers { λ r. ⌜ CallAnswers true graph.now net.old gates.old (record { code = r; buffer = net.new; result = gates.new }) ⌝ }
+    ensures answers { CallAnswers true graph.now net.old gates.old (record { code = result; buffer = net.new; result = gates.new }) }
 {
     let built = builder::build(graph, true, net);
     match built {

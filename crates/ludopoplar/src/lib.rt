@@ -1,22 +1,27 @@
 // The C interface: build, write, write packed, read, start, step, run, per million, broken check, broken line and session
 // page as a static library has them; in the module checked, build with the second output, start, step and run with the
-// tally's third number; in the module graphs, dearest graph and buffer graph. Each function calls the one that it is named
-// after and puts what that answers where C looks for it. It returns 0 where the call is accepted, else number × 2^32 +
-// line; results go through pointers, which a refusal leaves as they were. Computes nothing itself. Exports that code,
-// results, tally and buffers are those that their definitions give; of a rate that its results are those of a division,
-// the clause `divides` of `ludo_per_million`; of a session that was measured twice what a code means and which line it is,
-// the clauses `checks` of `ludo_broken_check` and `first` of `ludo_broken_line`; of a session page what stands in its
-// columns and that it tells graph name and verdict bytes, the clauses `lays` and `tells` of `ludo_session_page`; of a
-// build what it answers and, where that is 0, that its numbers do what demand 3 asks, the clauses `answers` and `demand`
-// of `ludo_build` and `ludo_build_checked`; of write and read what they return and leave, by the files of both forms, the
-// clauses `writes` of `ludo_write` and `ludo_write_packed` and `reads` of `ludo_read`; of start, step and run what an
-// accepted call leaves and what a refused one does, the clauses `starts` of `ludo_start` and `ludo_start_checked`, `steps`
-// of `ludo_step` and `ludo_step_checked`, `runs` of `ludo_run` and `ludo_run_checked`; of the dearest graph what it costs,
-// and that no graph of as many edges without operators costs more, the clause `dearest` of `ludo_dearest_graph`; of the
-// stroke buffer's graph which cycles it rejects and what build makes of it, the clause `buffer` of `ludo_buffer_graph`.
+// tally's third number; in the module graphs, dearest graph and buffer graph; in the module turns, a new cycle and a turn
+// of a bench. Each function calls the one that it is named after and puts what that answers where C looks for it. It
+// returns 0 where the call is accepted, else number × 2^32 + line; results go through pointers, which a refusal leaves as
+// they were. Computes nothing itself. Exports that code, results, tally and buffers are those that their definitions give;
+// of a rate that its results are those of a division, the clause `divides` of `ludo_per_million`; of a session that was
+// measured twice what a code means and which line it is, the clauses `checks` of `ludo_broken_check` and `first` of
+// `ludo_broken_line`; of a session page what stands in its columns and that it tells graph name and verdict bytes, the
+// clauses `lays` and `tells` of `ludo_session_page`; of a build what it answers and, where that is 0, that its numbers do
+// what demand 3 asks, the clauses `answers` and `demand` of `ludo_build` and `ludo_build_checked`; of write and read what
+// they return and leave, by the files of both forms, the clauses `writes` of `ludo_write` and `ludo_write_packed` and
+// `reads` of `ludo_read`; of start, step and run what an accepted call leaves and what a refused one does, the clauses
+// `starts` of `ludo_start` and `ludo_start_checked`, `steps` of `ludo_step` and `ludo_step_checked`, `runs` of `ludo_run`
+// and `ludo_run_checked`; of the dearest graph what it costs, and that no graph of as many edges without operators costs
+// more, the clause `dearest` of `ludo_dearest_graph`; of the stroke buffer's graph which cycles it rejects and what build
+// makes of it, the clause `buffer` of `ludo_buffer_graph`; of a bench what its calls answer and leave, and what holds
+// after any list of them, the clauses `adds` of `ludo_bench_add`, `turns` of `ludo_bench_turn` and `bench` of both.
 // `include/ludopoplar.h` declares these functions to C.
+#![tactic(auto)]
+
 mod checked;
 mod graphs;
+mod turns;
 
 ghost use Rattle.std.specs.Prelude.{◌≡◌, false};
 ghost use Rattle.aiger.specs.Format.{file_of};
@@ -69,7 +74,7 @@ fn verdict_number(verdict: Verdict) -> u64
 pub extern "C" fn ludo_build(graph: &[u8], net: &mut [u16], gates: &mut u64) -> u64
     ensures gates_after { filled result net.new gates.new ≡ build_call graph.now net.old gates.old }
     ensures demand { result ≡ 0 → CallBuilds false graph.now net.old net.new gates.new }
-    ensures* answers { λ r. ⌜ CallAnswers false graph.now net.old gates.old (record { code = r; buffer = net.new; result = gates.new }) ⌝ }
+    ensures answers { CallAnswers false graph.now net.old gates.old (record { code = result; buffer = net.new; result = gates.new }) }
     ensures numbered { Numbered }
 {
     let built = builder::build(graph, false, net);

@@ -2,6 +2,8 @@
 // and variables, the layout of the numbers, which numbers are a netlist, and what a netlist computes
 // in a cycle, in one lane and in 64. Knows nothing of graphs, texts or tallies. Exports that in each
 // lane the values of a cycle are the one valuation that satisfies AIGER's equations.
+#![tactic(auto)]
+
 ghost use Rattle.std.specs.Prelude.{◌≡◌};
 ghost use Rattle.netlist.specs.Valid.{is_outline, is_netlist};
 ghost use Rattle.netlist.specs.Aiger.{OutlineMeans, Means};

@@ -3,11 +3,11 @@ ghost use Rattle.std.specs.Prelude.{◌≡◌};
 ghost use Rattle.netlist.specs.Literals.{literal_of, variable_of, is_inverted, wrapped};
 
 // A literal: 2v for the variable v, 2v + 1 for its inverse.
-#[derive(Drop)]
+#[derive(Clone, Copy)]
 pub struct Literal(pub u16);
 
 // The index of a variable.
-#[derive(Drop)]
+#[derive(Clone, Copy)]
 pub struct Variable(pub u16);
 
 impl Literal {

@@ -3,6 +3,8 @@
 // Exports that a byte run has the bits of its number and no byte more than are needed, what stands in a file by the
 // netlist's numbers, that a netlist is written exactly where there is room for its file, 16 and 12 else, that no file
 // has more than 28,706 bytes, and that surplus numbers change nothing.
+#![tactic(auto)]
+
 ghost use Rattle.std.specs.Prelude.{◌≡◌, true, false, ◌++◌, ◌+◌, ◌*◌, ◌<◌, ◌≤◌, length, get_or};
 ghost use Rattle.text.specs.Writer.{Wrote, joined};
 ghost use Rattle.netlist.specs.Layout.{input_count, latch_count, output_count, gate_count, size_of};

@@ -4,6 +4,7 @@ ghost use Rattle.std.specs.Prelude.{◌≤◌};
 use crate::output::{write, write_bytes, write_number, write_numbers, write_refusal};
 use aiger::Written;
 use aiger_file::ReadOutcome;
+use std::io;
 
 // Room for every file, and for the numbers of every netlist.
 const FILE: usize = 65537;
@@ -60,48 +61,50 @@ fn same_numbers(a: &[u16], b: &[u16]) -> bool {
 }
 
 // Writes whether a buffer stayed as it was from a place on.
-fn write_rest(net: &[u16], from: usize, before: u16) {
+fn write_rest(rt: &impl Print, net: &[u16], from: usize, before: u16) -> io::Result<()> {
     if all_are(net, from, before) {
-        write(b"\tkept");
+        write(rt, b"\tkept")
     } else {
-        write(b"\tCHANGED");
+        write(rt, b"\tCHANGED")
     }
 }
 
 // Writes the length of a file and its first bytes, and whether the byte behind it stayed.
-fn write_file(file: &[u8], end: usize) {
-    write(b"\t");
-    write_number(end);
-    write_bytes(first_bytes(file, end));
+fn write_file(rt: &impl Print, file: &[u8], end: usize) -> io::Result<()> {
+    write(rt, b"\t")?;
+    write_number(rt, end)?;
+    write_bytes(rt, first_bytes(file, end))?;
     if text::byte_at(file, end) == UNWRITTEN {
-        write(b" kept");
+        write(rt, b" kept")
     } else {
-        write(b" CHANGED");
+        write(rt, b" CHANGED")
     }
 }
 
 // Writes what a packed write into a buffer answers where it should be refused.
-fn write_refused(net: &[u16], file: &mut [u8]) {
+fn write_refused(rt: &impl Print, net: &[u16], file: &mut [u8]) -> io::Result<()> {
     let written = packed::write(net, file);
     match written {
-        Written::Bytes(_) => write(b"\tWRITTEN"),
-        Written::Refused(cause) => write_refusal(cause.refusal()),
+        Written::Bytes(_) => write(rt, b"\tWRITTEN"),
+        Written::Refused(cause) => write_refusal(rt, cause.refusal()),
     }
 }
 
 // Writes the refusal of a packed write into a buffer that is one byte short.
-fn write_short(net: &[u16], file: &mut [u8], end: usize) {
+fn write_short(rt: &impl Print, net: &[u16], file: &mut [u8], end: usize) -> io::Result<()> {
     if 1 <= end {
         let short = least(end - 1, file.len());
-        write_refused(net, &mut file[0..short]);
+        write_refused(rt, net, &mut file[0..short])?;
     }
+    Ok(())
 }
 
 // Writes the refusal of a packed write of a netlist without its last number.
-fn write_cut(net: &[u16], file: &mut [u8]) {
+fn write_cut(rt: &impl Print, net: &[u16], file: &mut [u8]) -> io::Result<()> {
     if 1 <= net.len() {
-        write_refused(first_numbers(net, net.len() - 1), file);
+        write_refused(rt, first_numbers(net, net.len() - 1), file)?;
     }
+    Ok(())
 }
 
 // Whether a file reads as a netlist.
@@ -124,66 +127,71 @@ fn text_reads_as(net: &[u16], file: &mut [u8]) -> bool {
 }
 
 // Writes whether the packed file of a netlist and its text form read as it.
-fn write_same(packed: bool, text: bool) {
+fn write_same(rt: &impl Print, packed: bool, text: bool) -> io::Result<()> {
     if !packed {
-        write(b"\tPACKED DIFFERS");
+        write(rt, b"\tPACKED DIFFERS")
     } else if !text {
-        write(b"\tTEXT DIFFERS");
+        write(rt, b"\tTEXT DIFFERS")
     } else {
-        write(b"\tsame");
+        write(rt, b"\tsame")
     }
 }
 
 // Reads both forms of a netlist. A buffer has the packed one, of `end` bytes, and is then used for the other.
-fn write_both(net: &[u16], file: &mut [u8], end: usize) {
+fn write_both(rt: &impl Print, net: &[u16], file: &mut [u8], end: usize) -> io::Result<()> {
     let packed = reads_as(first_bytes(file, end), net);
     let text = text_reads_as(net, file);
-    write_same(packed, text);
+    write_same(rt, packed, text)
 }
 
 // Writes what is made of a netlist without surplus, whose packed file of `end` bytes a buffer has.
-fn write_written(net: &[u16], file: &mut [u8], end: usize) {
-    write_file(file, end);
-    write_short(net, file, end);
-    write_cut(net, file);
-    write_both(net, file, end);
+fn write_written(rt: &impl Print, net: &[u16], file: &mut [u8], end: usize) -> io::Result<()> {
+    write_file(rt, file, end)?;
+    write_short(rt, net, file, end)?;
+    write_cut(rt, net, file)?;
+    write_both(rt, net, file, end)
 }
 
 // Writes what is made of a netlist without surplus, in a buffer that has no file yet. It takes an array, whose type tells
 // the length, so that no proof counts 65,537 elements.
-fn write_packed(net: &[u16], file: &mut [u8; FILE]) {
+fn write_packed(rt: &impl Print, net: &[u16], file: &mut [u8; FILE]) -> io::Result<()> {
     let written = packed::write(net, file);
     match written {
-        Written::Bytes(end) => write_written(net, file, end),
-        Written::Refused(cause) => write_refusal(cause.refusal()),
+        Written::Bytes(end) => write_written(rt, net, file, end),
+        Written::Refused(cause) => write_refusal(rt, cause.refusal()),
     }
 }
 
 // Writes what is made of a netlist without surplus.
-fn write_forms(net: &[u16]) {
+fn write_forms(rt: &impl Print, net: &[u16]) -> io::Result<()> {
     let mut file = [UNWRITTEN; FILE];
-    write_packed(net, &mut file);
+    write_packed(rt, net, &mut file)
 }
 
 // Writes the netlist that was read into a buffer, of n numbers.
-fn write_netlist(net: &[u16], n: usize, before: u16) {
+fn write_netlist(rt: &impl Print, net: &[u16], n: usize, before: u16) -> io::Result<()> {
     let read = first_numbers(net, n);
-    write(b"\t");
-    write_number(n);
-    write(b":");
-    write_numbers(read);
-    write_rest(net, n, before);
-    write_forms(read);
+    write(rt, b"\t")?;
+    write_number(rt, n)?;
+    write(rt, b":")?;
+    write_numbers(rt, read)?;
+    write_rest(rt, net, n, before)?;
+    write_forms(rt, read)
 }
 
 // Writes what a read of a file into a buffer answers, all of whose numbers are the given one.
-pub(crate) fn write_read(file: &[u8], net: &mut [u16], before: u16) {
+pub(crate) fn write_read(
+    rt: &impl Print,
+    file: &[u8],
+    net: &mut [u16],
+    before: u16,
+) -> io::Result<()> {
     let outcome = aiger_file::read(file, net);
     match outcome {
-        ReadOutcome::Numbers(n) => write_netlist(net, n, before),
+        ReadOutcome::Numbers(n) => write_netlist(rt, net, n, before),
         ReadOutcome::Refused(cause) => {
-            write_refusal(cause.refusal());
-            write_rest(net, 0, before);
+            write_refusal(rt, cause.refusal())?;
+            write_rest(rt, net, 0, before)
         }
     }
 }

@@ -7,14 +7,15 @@
 // is one byte short, and of a netlist without its last number; and whether its packed file and its text form read as the
 // same netlist. All parted by tabs. cases.py writes the cases and, by a model of its own, what documents 01 and 02 say of
 // each.
+#![tactic(auto)]
+
 use answers::first_bytes;
 use output::write;
+use std::io;
 use text::{Line, Number};
 
 mod answers;
 mod output;
-
-const STDIN: i32 = 0;
 
 // Room for all cases.
 const ROOM: usize = 262144;
@@ -26,70 +27,72 @@ const NUMBERS: usize = 8200;
 const BEFORE: u16 = 60000;
 
 // Writes the line of one case, whose buffer has `room` numbers.
-fn write_case(label: &[u8], room: usize, file: &[u8]) {
+fn write_case(rt: &impl Print, label: &[u8], room: usize, file: &[u8]) -> io::Result<()> {
     let mut net = [BEFORE; NUMBERS];
     if room <= NUMBERS {
-        write(label);
-        answers::write_read(file, &mut net[0..room], BEFORE);
-        write(b"\n");
+        write(rt, label)?;
+        answers::write_read(rt, file, &mut net[0..room], BEFORE)?;
+        write(rt, b"\n")?;
     }
+    Ok(())
 }
 
 // The case whose file has `length` bytes and whose line goes on at a place: the place after it, or that place where
 // there is none.
-fn case_at(input: &[u8], at: usize, length: usize) -> usize {
+fn case_at(rt: &impl Print, input: &[u8], at: usize, length: usize) -> io::Result<usize> {
     let Number::Read(room, tab) = text::read_number(input, at) else {
-        return at;
+        return Ok(at);
     };
     let Line::Ended(end) = text::line_at(input, tab) else {
-        return at;
+        return Ok(at);
     };
     if end <= tab {
-        return at;
+        return Ok(at);
     }
     if input.len() <= end {
-        return at;
+        return Ok(at);
     }
     let label = tab + 1;
     let start = end + 1;
     if input.len() - start < length {
-        return at;
+        return Ok(at);
     }
     let next = start + length;
-    write_case(&input[label..end], room, &input[start..next]);
-    next
+    write_case(rt, &input[label..end], room, &input[start..next])?;
+    Ok(next)
 }
 
 // The case at a place: the place after it, or the same place where there is none.
-fn one_case(input: &[u8], at: usize) -> usize {
+fn one_case(rt: &impl Print, input: &[u8], at: usize) -> io::Result<usize> {
     let Number::Read(length, blank) = text::read_number(input, at) else {
-        return at;
+        return Ok(at);
     };
     if input.len() <= blank {
-        return at;
+        return Ok(at);
     }
-    case_at(input, blank + 1, length)
+    case_at(rt, input, blank + 1, length)
 }
 
 // All cases.
-fn cases(input: &[u8]) {
+fn cases(rt: &impl Print, input: &[u8]) -> io::Result<()> {
     let mut at = 0;
     while at < input.len() {
-        let next = one_case(input, at);
+        let next = one_case(rt, input, at)?;
         if next <= at {
-            return;
+            return Ok(());
         }
         at = next;
     }
+    Ok(())
 }
 
 // The cases of standard input, which a buffer has room for. It takes an array for the same reason as write_packed.
-fn read_cases(input: &mut [u8; ROOM]) {
-    let n = io::read_full(STDIN, input);
-    cases(first_bytes(input, n));
+fn read_cases(rt: &HostRuntime, input: &mut [u8; ROOM]) -> io::Result<()> {
+    let n = stream::read_full(&mut rt.stdin(), input)?;
+    cases(rt, first_bytes(input, n))
 }
 
-fn main() {
+fn main(rt: HostRuntime) -> io::Result<()> {
     let mut input = [0u8; ROOM];
-    read_cases(&mut input);
+    read_cases(&rt, &mut input)
 }

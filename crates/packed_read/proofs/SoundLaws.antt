@@ -13,7 +13,7 @@ use Rattle.aiger_lines.specs.Fields.{fields_of}
 use Rattle.aiger_lines.specs.Blocks.{rows}
 use Rattle.aiger_lines.specs.Heads.{head_at}
 use Rattle.aiger_lines.proofs.PlaceLaws.{At, at_join, at_joined, whole-at}
-use Rattle.aiger_lines.proofs.HeadLaws.{HeadAt, head_at}
+use Rattle.aiger_lines.proofs.HeadLaws.{HeadAt, head_at_lem}
 use Rattle.aiger_lines.proofs.TextLaws.{OutputRead, misformed, output_sound}
 use Rattle.aiger_lines.proofs.RunLaws.{head_rows}
 use Rattle.aiger_lines.proofs.LayoutLaws.{net_of}
@@ -104,4 +104,4 @@ pub sound : (s ns : List ℕ) (free q : ℕ) → EachByte s → read_packed s �
 unfolding read_packed
 sound s ns free q bytes h =
     head_rows _ (head_at 105 s) (body_of s) ns free q h
-    (λ m i l o a r ks x y n. is-packed s bytes m i l o a r ks (body_read s m i l o a r ks free q y) (head_at 105 s m i l o a r x) ns n)
+    (λ m i l o a r ks x y n. is-packed s bytes m i l o a r ks (body_read s m i l o a r ks free q y) (head_at_lem 105 s m i l o a r x) ns n)

@@ -2,6 +2,8 @@
 // graphs, nor of the text form. Exports that it takes exactly the packed files of netlists, explicit resets 0
 // allowed, that reading what was written gives the same numbers, and with which number and line it refuses
 // every other text.
+#![tactic(auto)]
+
 ghost use Rattle.std.specs.Prelude.{◌≡◌, ℕ, ◌<◌, get_or};
 ghost use Rattle.packed_read.specs.Read.{refusal_of, read_end, read_of};
 ghost use Rattle.packed_read.specs.Claims.{PackedMeans};
@@ -16,7 +18,7 @@ mod lines;
 mod runs;
 
 // Why a read is refused.
-#[derive(Drop)]
+#[derive(Clone, Copy)]
 pub enum Cause {
     // Over 65,536 bytes.
     TextTooLong,
@@ -63,7 +65,7 @@ impl Cause {
     }
 }
 
-#[derive(Drop)]
+#[derive(Clone, Copy)]
 pub enum ReadOutcome {
     // How many numbers the netlist has.
     Numbers(usize),
@@ -107,7 +109,7 @@ pub fn read(text: &[u8], net: &mut [u16]) -> ReadOutcome
 }
 
 // A byte run that was read: its number and the place after it; or no run.
-#[derive(Drop)]
+#[derive(Clone, Copy)]
 enum RunRead {
     Took(usize, usize),
     Broken,
@@ -115,7 +117,7 @@ enum RunRead {
 
 // What follows the header: latches, outputs and gates. Latches and gates have the variable of the first one,
 // latches and outputs the largest literal.
-#[derive(Drop)]
+#[derive(Clone, Copy)]
 enum Kind {
     Latch(Variable, Literal),
     Output(Literal),
@@ -123,7 +125,7 @@ enum Kind {
 }
 
 // Lines, or gates, of one kind: how many, and the line number of the first.
-#[derive(Drop)]
+#[derive(Clone, Copy)]
 struct Block {
     kind: Kind,
     count: u16,

@@ -49,13 +49,13 @@ file_trimmed false net = trimmed_file net (λ k. false)
 
 pub file-short : (packed : Bool) (net : List ℕ) → is_netlist net ≡ true → length (file_in packed net) ≤ 65536
 unfolding file_in packed_of
-file-short true net h = omega (arith, (packed.write-means).short net (λ k. false) h)
-file-short false net h = (aiger.write-means).short net h
+file-short true net h = omega (arith, (packed.write_means).short net (λ k. false) h)
+file-short false net h = (aiger.write_means).short net h
 
 module _ (room : List ℕ) (enough : 8194 ≤ length room) (text : Bytes) where
   pub build_refused : (print : Graph → Bytes) (cause : Cause) → (build_of false text room).answer ≡ Refused cause
       → graph_page (graph_of text) print ≡ told cause
-  build_refused print cause h = page_end_lem print (graph_of text) ∙ judge.build-refused room enough print told cause text h
+  build_refused print cause h = page_end_lem print (graph_of text) ∙ judge.build_refused room enough print told cause text h
 
   -- ---- what demand 3 says of the numbers that an accepted build leaves
   module _ (means : BuildMeans false text room) (made : ℕ) (h : (build_of false text room).answer ≡ Gates made) where

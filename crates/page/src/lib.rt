@@ -3,6 +3,8 @@
 // itself is refused only where the buffer is too short for it. Knows nothing of where its bytes come from or go to.
 // Exports that the monitor's page names exactly the cycles that some setting and some rejecting path condemn, and says
 // rejected exactly if there is one; and that the other pages are the file of the graph's monitor, or its refusal.
+#![tactic(auto)]
+
 ghost use Rattle.std.specs.Prelude.{◌≡◌, true, ◌≤◌, length};
 ghost use Rattle.netlist.specs.Valid.{is_netlist};
 ghost use Rattle.assertion.specs.Paths.{PathsMean};
@@ -33,21 +35,21 @@ const MAX_NUMBERS: usize = 8194;
 const MAX_CYCLES: usize = 32768;
 
 // Why a page is refused.
-#[derive(Drop)]
+#[derive(Clone, Copy)]
 pub enum Cause {
     // The buffer is shorter than the page.
     ShortBuffer,
 }
 
 // Why an input is refused as a whole: the refusal is the text of its page.
-#[derive(Drop)]
+#[derive(Clone, Copy)]
 enum InputFault {
     // It is over 65,536 bytes.
     TooLong,
 }
 
 // What a page function answers.
-#[derive(Drop)]
+#[derive(Clone, Copy)]
 pub enum Paged {
     // How many bytes the page has.
     Bytes(usize),

@@ -1,6 +1,7 @@
 // The monitor's pages for the largest inputs: one of 65,536 bytes whose every cycle is rejected, which gives the
 // longest page that there is, and the same with one byte more.
-use crate::{STDOUT, page_end, write_front};
+use crate::{page_end, write_front};
+use std::io;
 
 const LONGEST: usize = 65536;
 
@@ -41,46 +42,48 @@ fn last_line(s: &[u8]) -> usize {
 }
 
 // Writes how many bytes a page has.
-fn write_length(n: usize) {
+fn write_length(rt: &impl Print, n: usize) -> io::Result<()> {
     let mut out = [0u8; 64];
     let p = text::put_number(&mut out, 0, n);
     let end = text::put_bytes(&mut out, p, b" bytes\n");
-    write_front(&out, end);
+    write_front(rt, &out, end)
 }
 
 // Writes a part of a buffer.
-fn write_part(out: &[u8], start: usize, end: usize) {
+fn write_part(rt: &impl Print, out: &[u8], start: usize, end: usize) -> io::Result<()> {
     if end <= out.len() {
         if start <= end {
-            io::write_all(STDOUT, &out[start..end]);
+            rt.write_all(&out[start..end])?;
         }
     }
+    Ok(())
 }
 
 // Writes the length of a page, the first n bytes of a buffer, and its last line.
-fn write_end(out: &[u8], n: usize) {
-    write_length(n);
+fn write_end(rt: &impl Print, out: &[u8], n: usize) -> io::Result<()> {
+    write_length(rt, n)?;
     if n <= out.len() {
         let at = last_line(&out[0..n]);
-        write_part(out, at, n);
+        write_part(rt, out, at, n)?;
     }
+    Ok(())
 }
 
 // Fills an input with a graph of one edge that condemns each path, `T` and cycles, and writes the end of its page.
-fn write_filled(input: &mut [u8]) {
+fn write_filled(rt: &impl Print, input: &mut [u8]) -> io::Result<()> {
     let mut out = [0u8; PAGE];
     let at = text::put_bytes(input, 0, b"V\ta\nE\ta\ta\tt\t1\t0\nT\n");
     put_cycles(input, at);
     let paged = page::monitor_page(input, &mut out);
-    write_end(&out, page_end(paged));
+    write_end(rt, &out, page_end(paged))
 }
 
 // Writes both cases, with their labels.
-pub(crate) fn write_largest() {
+pub(crate) fn write_largest(rt: &impl Print) -> io::Result<()> {
     let mut longest = [0u8; LONGEST];
     let mut longer = [0u8; LONGER];
-    io::write_all(STDOUT, b"m 65,536 bytes of input, every cycle rejected\n");
-    write_filled(&mut longest);
-    io::write_all(STDOUT, b"m 65,537 bytes of input\n");
-    write_filled(&mut longer);
+    rt.write_all(b"m 65,536 bytes of input, every cycle rejected\n")?;
+    write_filled(rt, &mut longest)?;
+    rt.write_all(b"m 65,537 bytes of input\n")?;
+    write_filled(rt, &mut longer)
 }

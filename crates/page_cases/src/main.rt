@@ -5,14 +5,13 @@
 // by hand, the pages that document 01 asks for, with the verdict of document 02. Each page is asked for three times, into
 // a buffer with surplus, one of just its length and one a byte shorter; a line in capitals says where an answer or a
 // buffer is not what it must be. Last come the cases of the largest inputs.
+#![tactic(auto)]
+
 use page::Paged;
+use std::io;
 use text::{Line, Number};
 
 mod largest;
-
-const STDIN: i32 = 0;
-
-pub(crate) const STDOUT: i32 = 1;
 
 // What each byte of a buffer is before a page is written.
 const FILL: u8 = 165;
@@ -32,10 +31,11 @@ fn page_of(kind: u8, input: &[u8], out: &mut [u8]) -> Paged {
 }
 
 // Writes the first n bytes of a buffer.
-pub(crate) fn write_front(out: &[u8], n: usize) {
+pub(crate) fn write_front(rt: &impl Print, out: &[u8], n: usize) -> io::Result<()> {
     if n <= out.len() {
-        io::write_all(STDOUT, &out[0..n]);
+        rt.write_all(&out[0..n])?;
     }
+    Ok(())
 }
 
 // Whether a buffer holds, from place n on, what it held before.
@@ -118,82 +118,85 @@ fn exact_holds(kind: u8, input: &[u8], page: &[u8]) -> bool {
 }
 
 // Writes a mark where something does not hold.
-fn mark(holds: bool, bytes: &[u8]) {
+fn mark(rt: &impl Print, holds: bool, bytes: &[u8]) -> io::Result<()> {
     if !holds {
-        io::write_all(STDOUT, bytes);
+        rt.write_all(bytes)?;
     }
+    Ok(())
 }
 
 // Tries buffers of a page's length and one byte less.
-fn try_lengths(kind: u8, input: &[u8], page: &[u8]) {
-    mark(exact_holds(kind, input, page), b"EXACT LENGTH FAILS\n");
+fn try_lengths(rt: &impl Print, kind: u8, input: &[u8], page: &[u8]) -> io::Result<()> {
+    mark(rt, exact_holds(kind, input, page), b"EXACT LENGTH FAILS\n")?;
     mark(
+        rt,
         short_holds(kind, input, page.len()),
         b"SHORT BUFFER FAILS\n",
-    );
+    )
 }
 
 // Writes a page, the first n bytes of a buffer, and a mark for each thing that does not hold of it.
-fn write_page(kind: u8, input: &[u8], out: &[u8], n: usize) {
+fn write_page(rt: &impl Print, kind: u8, input: &[u8], out: &[u8], n: usize) -> io::Result<()> {
     if n <= out.len() {
         let page = &out[0..n];
-        io::write_all(STDOUT, page);
-        mark(untouched(out, n), b"SURPLUS CHANGED\n");
-        try_lengths(kind, input, page);
+        rt.write_all(page)?;
+        mark(rt, untouched(out, n), b"SURPLUS CHANGED\n")?;
+        try_lengths(rt, kind, input, page)
     } else {
-        mark(false, b"PAGE TOO LONG\n");
+        mark(rt, false, b"PAGE TOO LONG\n")
     }
 }
 
 // Writes what one case gives.
-fn write_case(label: &[u8], input: &[u8]) {
+fn write_case(rt: &impl Print, label: &[u8], input: &[u8]) -> io::Result<()> {
     let kind = text::byte_at(label, 0);
-    io::write_all(STDOUT, label);
-    io::write_all(STDOUT, b"\n");
+    rt.write_all(label)?;
+    rt.write_all(b"\n")?;
     let mut out = [FILL; ROOM];
     let paged = page_of(kind, input, &mut out);
-    write_page(kind, input, &out, page_end(paged));
+    write_page(rt, kind, input, &out, page_end(paged))
 }
 
 // The case at a place: the place after it, or the same place where there is none.
-fn one_case(input: &[u8], at: usize) -> usize {
+fn one_case(rt: &impl Print, input: &[u8], at: usize) -> io::Result<usize> {
     let Number::Read(length, tab) = text::read_number(input, at) else {
-        return at;
+        return Ok(at);
     };
     let Line::Ended(end) = text::line_at(input, tab) else {
-        return at;
+        return Ok(at);
     };
     if end <= tab {
-        return at;
+        return Ok(at);
     }
     if input.len() <= end {
-        return at;
+        return Ok(at);
     }
     let label = tab + 1;
     let start = end + 1;
     if input.len() - start < length {
-        return at;
+        return Ok(at);
     }
     let next = start + length;
-    write_case(&input[label..end], &input[start..next]);
-    next
+    write_case(rt, &input[label..end], &input[start..next])?;
+    Ok(next)
 }
 
 // All cases of standard input.
-fn cases(input: &[u8]) {
+fn cases(rt: &impl Print, input: &[u8]) -> io::Result<()> {
     let mut at = 0;
     while at < input.len() {
-        let next = one_case(input, at);
+        let next = one_case(rt, input, at)?;
         if next <= at {
-            return;
+            return Ok(());
         }
         at = next;
     }
+    Ok(())
 }
 
-fn main() {
+fn main(rt: HostRuntime) -> io::Result<()> {
     let mut input = [0u8; 196608];
-    let n = io::read_full(STDIN, &mut input);
-    cases(&input[..n]);
-    largest::write_largest();
+    let n = stream::read_full(&mut rt.stdin(), &mut input)?;
+    cases(&rt, &input[..n])?;
+    largest::write_largest(&rt)
 }

@@ -2,6 +2,8 @@
 // printed, appended to a buffer as the writers of `text` do. Knows nothing of graphs or circuits. Exports writers for
 // the line of a refusal and for the page of a run, and the length of the input's graph part, which is what stands before
 // the first line `T`: the clause `parts` of `graph_length`.
+#![tactic(auto)]
+
 mod lines;
 mod parts;
 

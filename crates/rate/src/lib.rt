@@ -1,6 +1,8 @@
 // Rejections in a million cycles, from a tally, for a paper to print: whole part and remainder, nothing rounded. Knows
 // nothing of netlists and graphs, nor of where the tally comes from. Exports that whole part and remainder are those
 // of a division: the clause `divides` of `per_million`.
+#![tactic(auto)]
+
 ghost use Rattle.std.specs.Prelude.{◌≡◌};
 ghost use Rattle.rate.specs.Rates.{refusal_of, rate_of};
 ghost use Rattle.rate.specs.Claims.{Divides};
@@ -10,19 +12,19 @@ use text::Refusal;
 
 const MILLION: u64 = 1000000;
 
-#[derive(Drop)]
+#[derive(Clone, Copy)]
 pub enum Cause {
     // The tally has no cycle, or more rejected cycles than cycles.
     NoRate,
 }
 
-#[derive(Drop)]
+#[derive(Clone, Copy)]
 pub struct Rate {
     pub whole: u32,
     pub remainder: u32,
 }
 
-#[derive(Drop)]
+#[derive(Clone, Copy)]
 pub enum Rated {
     PerMillion(Rate),
     Refused(Cause),

@@ -2,6 +2,8 @@
 // graphs and circuits, nor of where the bytes come from. Exports which numbers stand in which columns of the page, the
 // clause `lays` of `lay_out`; that equal pages come only from equal graph names and verdict bytes, the clause `tells`;
 // and that all widths come from one statement over width and digits, the clause `widths`.
+#![tactic(auto)]
+
 mod fields;
 mod lines;
 mod printable;
@@ -25,7 +27,7 @@ const MAX_CYCLES: usize = 524288;
 const LINE: usize = 81;
 
 // Why a page is refused.
-#[derive(Drop)]
+#[derive(Clone, Copy)]
 pub enum Cause {
     // More than 524,288 verdict bytes.
     TooManyCycles,
@@ -35,7 +37,7 @@ pub enum Cause {
     NotPrintable,
 }
 
-#[derive(Drop)]
+#[derive(Clone, Copy)]
 pub enum Laid {
     // How many bytes the page has.
     Bytes(usize),

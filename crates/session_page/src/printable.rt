@@ -22,7 +22,7 @@ pub fn is_graph_name(name: &[u8]) -> bool
 }
 
 // What counting finds.
-#[derive(Drop)]
+#[derive(Clone, Copy)]
 pub(crate) enum Count {
     // How many cycles are rejected.
     Rejected(usize),

@@ -1,13 +1,12 @@
 // The sheet program. Standard input holds a line with the graph name, and then what the monitor program reads; standard
 // output gets the session page of the judgement, or the refusal. What is printed is the page of `sheet_page::sheet_page`.
+#![tactic(auto)]
+
 ghost use Rattle.std.specs.Prelude.{◌≡◌, List, ℕ, ◌≤◌, length, take};
 ghost use Rattle.sheet_page.specs.Sheets.{sheet_text};
 
 use page::Paged;
-
-const STDIN: i32 = 0;
-
-const STDOUT: i32 = 1;
+use std::io;
 
 // One byte more than an input may have: what is longer is refused, and no more of it is read.
 const INPUT: usize = 65537;
@@ -29,10 +28,10 @@ fn page_of(input: &[u8], n: usize, out: &mut [u8]) -> usize
     }
 }
 
-fn main() {
+fn main(rt: HostRuntime) -> io::Result<()> {
     let mut input = [0u8; INPUT];
     let mut out = [0u8; PAGE];
-    let n = io::read_full(STDIN, &mut input);
+    let n = stream::read_full(&mut rt.stdin(), &mut input)?;
     let end = page_of(&input, n, &mut out);
-    io::write_all(STDOUT, &out[..end]);
+    rt.write_all(&out[..end])
 }

@@ -3,6 +3,8 @@
 // short for it. Knows nothing of where its bytes come from or go to. Exports what is printed of every input, of one that is
 // not refused a sheet of exactly the cycles that some setting and some rejecting path condemn: the clause `sheet` of
 // `sheet_page`; and that what the monitor's page refuses after the name's line is refused alike: the clause `monitor`.
+#![tactic(auto)]
+
 ghost use Rattle.std.specs.Prelude.{◌≡◌, true, ◌≤◌, length};
 ghost use Rattle.assertion.specs.Paths.{PathsMean};
 ghost use Rattle.graph.specs.Reading.{graph_of};
@@ -27,7 +29,7 @@ const MAX_INPUT: usize = 65536;
 const MAX_CYCLES: usize = 32768;
 
 // Why an input has no sheet: the refusal is the text of its page.
-#[derive(Drop)]
+#[derive(Clone, Copy)]
 enum InputFault {
     // It is over 65,536 bytes.
     TooLong,

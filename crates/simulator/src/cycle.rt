@@ -115,7 +115,7 @@ fn latches_move(net: &[u16], count: usize, values: &[u64], latches: &mut [u64])
 }
 
 // The output words of a cycle; checked is 0 where there is no second output.
-#[derive(Drop)]
+#[derive(Clone, Copy)]
 pub(crate) struct Words {
     pub accept: u64,
     pub checked: u64,

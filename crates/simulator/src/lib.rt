@@ -3,6 +3,8 @@
 // each step computes and answers, in every lane, what the one valuation that AIGER's equations allow
 // gives, and what it adds to the three numbers of the tally; that a run is its steps one after another,
 // one for each line of its trace, and that it answers rejected exactly if one of their bytes is 1.
+#![tactic(auto)]
+
 ghost use Rattle.std.specs.Prelude.{◌≡◌};
 ghost use Rattle.simulator.specs.Start.{start_end, start_of};
 ghost use Rattle.simulator.specs.Step.{step_end, step_of};

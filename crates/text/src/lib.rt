@@ -5,6 +5,8 @@
 // A writer takes the buffer and a place and returns the place after its text. It stores what falls
 // within the buffer and drops the rest, so writers need no room to be proved, and the length of a
 // text is what its writer returns from place 0 over an empty part, `&mut out[..0]`.
+#![tactic(auto)]
+
 ghost use Rattle.std.specs.Prelude.{◌≡◌, [], ◌∷◌, leb, eqb, get_or, cond, not, ◌&&◌, ◌||◌};
 ghost use Rattle.text.specs.Lines.{line_end, line_at};
 ghost use Rattle.text.specs.Numbers.{digits, is_digit, read_number, ReadsBack};
@@ -12,14 +14,14 @@ ghost use Rattle.text.specs.Writer.{Wrote};
 
 // How a call reports that it was refused: the number of document 01's table and the line, 0 where the
 // cause has no line. Each crate has an enum of its causes, with its number and line for each case.
-#[derive(Drop)]
+#[derive(Clone, Copy)]
 pub struct Refusal {
     pub number: u8,
     pub line: u32,
 }
 
 // What stands at a place where a line may start.
-#[derive(Drop)]
+#[derive(Clone, Copy)]
 pub enum Line {
     // A line whose LF stands at the place given.
     Ended(usize),
@@ -59,7 +61,7 @@ pub fn line_at(s: &[u8], at: usize) -> Line
 }
 
 // What reading a number finds.
-#[derive(Drop)]
+#[derive(Clone, Copy)]
 pub enum Number {
     // The number, and the place after its digits.
     Read(usize, usize),

@@ -1,6 +1,7 @@
 //! Measures the proved library beside the reference and, for `run`, a C loop; `run` with two
 //! outputs beside `run` with one; files of the packed form beside those of text; texts whose gates
-//! stand in other orders; and the writing of graphs.
+//! stand in other orders; the writing of graphs; and eight machines on one bench beside eight that
+//! are stepped alone.
 //! The results of all of them are compared before anything is timed.
 
 mod bench;
@@ -8,17 +9,20 @@ mod c_loop;
 mod calls;
 mod clock;
 mod graphs;
+mod machines;
 mod orders;
 mod traces;
 
 use bench::{Bench, Words};
 use clock::best;
+use machines::{Circuits, Machines, MACHINES};
 use reference::Outputs;
+use std::cell::RefCell;
 use std::fmt::Debug;
 use std::hint::black_box;
 
 const RUNS: usize = 7;
-/// Repetitions of `build`, of `read` and the writers, and of a row of steps or texts.
+/// Repetitions of `build`, of `read` and the writers, and of a row of steps, texts or turns.
 const SHORT_CALLS: usize = 300;
 /// Cycles in a row of steps.
 const STEPS: usize = 100;
@@ -30,8 +34,8 @@ fn main() {
         "Processor time, best of {RUNS} repetitions for run, of {SHORT_CALLS} for the others."
     );
     println!("A ratio is another implementation's time over the library's: above 1 the");
-    println!("library is faster. Those of one output, of text and of lines in order are the");
-    println!("library's own times with it.");
+    println!("library is faster. Those of one output, of text, of lines in order and of step are");
+    println!("the library's own times with it.");
     report(
         "stroke buffer of 40 places",
         &graphs::stroke_buffer(40),
@@ -56,6 +60,7 @@ fn main() {
         |text| ludopoplar::buffer_graph(40, text),
         |text| reference::buffer_graph(40, text),
     );
+    report_machines();
 }
 
 /// The calls on the netlist with one output, and `run` on that with two beside it.
@@ -370,6 +375,47 @@ fn report_graph<const LENGTH: usize, Refusal: Debug, OtherRefusal: Debug>(
         duration(library / TEXTS as f64),
         megabytes(TEXTS * LENGTH, library),
         ratio(reference, library),
+    );
+}
+
+/// A new cycle for each machine, then a turn for each; beside the turns a step of each alone.
+fn report_machines() {
+    let graph = graphs::stroke_buffer(40);
+    let bench = &Bench::new(&graph, Outputs::Accept, &traces::longest(40, false));
+    println!("\n{MACHINES} stroke buffers of 40 places on one bench");
+    let by_library = RefCell::new(Machines::started(bench));
+    let by_reference = RefCell::new(Machines::started(bench));
+    let mut alone = Circuits::started(bench);
+    let (mut words, mut due, mut stepped) = (0, 0, 0);
+    let [add, turn, reference_add, reference_turn, step] = best(
+        SHORT_CALLS,
+        [
+            &mut || by_library.borrow_mut().add_by_library(),
+            &mut || words = by_library.borrow_mut().turn_by_library(),
+            &mut || by_reference.borrow_mut().add_by_reference(),
+            &mut || due = by_reference.borrow_mut().turn_by_reference(),
+            &mut || stepped = alone.step_by_library(),
+        ],
+    );
+    assert_eq!([words, words], [due, stepped], "the output words differ");
+    assert!(by_library == by_reference, "the reference's bench differs");
+    assert!(
+        by_library.borrow().agree_with(&alone),
+        "the circuits differ"
+    );
+    println!(
+        "  add    {}, {}; reference {}",
+        duration(add / MACHINES as f64),
+        rate(MACHINES, add, "cycles"),
+        ratio(reference_add, add),
+    );
+    println!(
+        "  turn   {}, {}, {}; step {}, reference {}",
+        duration(turn / MACHINES as f64),
+        rate(MACHINES, turn, "turns"),
+        rate(MACHINES * bench.gates(), turn, "gates"),
+        ratio(step, turn),
+        ratio(reference_turn, turn),
     );
 }
 

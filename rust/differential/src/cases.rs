@@ -1,6 +1,6 @@
 //! The cases: one call, or a list of calls on one netlist; and now and then a session, a session
-//! page, a packed file, a text with its gates in any order, the dearest graph, or the stroke
-//! buffer's, written or run.
+//! page, a packed file, a text with its gates in any order, the dearest graph, the stroke
+//! buffer's, written or run, or a bench of eight machines.
 
 use crate::bench::Bench;
 use crate::compare::{Call, Lengths, Memory, Mismatch, Name};
@@ -9,13 +9,14 @@ use crate::random::Random;
 use crate::round_trip::{both_forms, write_and_read_back};
 use crate::texts::{BUFFER, DEAREST};
 use crate::{
-    aigers, buffers, graphs, loose, netlists, packs, pages, rates, sequence, sessions, traces,
+    aigers, buffers, graphs, loose, machines, netlists, packs, pages, rates, sequence, sessions,
+    traces, turns,
 };
 use reference::{Netlist, Tally};
 
 /// The session, then the page, then the packed file, then the text of loose gates, then the
-/// dearest graph and then the stroke buffer's are drawn last, so that the others' draws do not
-/// depend on them.
+/// dearest graph, then the stroke buffer's and then the bench are drawn last, so that the others'
+/// draws do not depend on them.
 pub fn case(bench: &mut Bench) -> Result<(), Mismatch> {
     calls(bench)?;
     if bench.random.once_in(4) {
@@ -39,6 +40,12 @@ pub fn case(bench: &mut Bench) -> Result<(), Mismatch> {
     }
     if bench.random.once_in(4) {
         buffers::any(bench)?;
+    }
+    if bench.random.once_in(4) {
+        machines::any(bench)?;
+    }
+    if bench.random.once_in(64) {
+        turns::session(bench)?;
     }
     Ok(())
 }

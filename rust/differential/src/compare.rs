@@ -4,7 +4,7 @@ use crate::pages::Record;
 use crate::random::Random;
 use crate::sessions::Session;
 use ludopoplar::raw;
-use reference::{Outputs, Refusal, Tally, Trace, Verdict};
+use reference::{Outputs, Refusal, Tally, Trace, Turn, Verdict};
 use std::fmt::{Debug, Write as _};
 
 #[derive(Clone, Copy, Debug, PartialEq, Eq, PartialOrd, Ord)]
@@ -26,6 +26,8 @@ pub enum Name {
     SessionPage,
     DearestGraph,
     BufferGraph,
+    BenchAdd,
+    BenchTurn,
 }
 
 impl Name {
@@ -55,7 +57,8 @@ impl Name {
     }
 }
 
-/// A call with what it reads: `bytes` is a graph, an AIGER file, a cycle or a trace.
+/// A call with what it reads: `net` is a netlist, or those of a bench; `bytes` is a graph, an AIGER
+/// file, a cycle or a trace.
 #[derive(Clone, PartialEq)]
 pub struct Call {
     pub name: Name,
@@ -67,6 +70,8 @@ pub struct Call {
     record: Option<Record>,
     /// What `DearestGraph` and `BufferGraph` are told instead: edges, or strokes.
     size: Option<u64>,
+    /// What `BenchAdd` is told beside the cycle.
+    machine: Option<u32>,
 }
 
 impl Call {
@@ -82,6 +87,7 @@ impl Call {
             session: None,
             record: None,
             size: None,
+            machine: None,
         }
     }
 
@@ -129,6 +135,21 @@ impl Call {
     fn size(&self) -> u64 {
         self.size.expect("a call with a number of edges or strokes")
     }
+
+    pub fn bench_add(nets: Vec<u16>, machine: u32, cycle: Vec<u8>) -> Call {
+        Call {
+            machine: Some(machine),
+            ..Call::on_net(Name::BenchAdd, nets, cycle)
+        }
+    }
+
+    pub fn bench_turn(nets: Vec<u16>) -> Call {
+        Call::on_net(Name::BenchTurn, nets, Vec::new())
+    }
+
+    pub fn machine(&self) -> u32 {
+        self.machine.expect("a call for a machine")
+    }
 }
 
 /// A lent buffer with random or given contents. It lies within a longer one, whose
@@ -142,7 +163,7 @@ pub struct Lent<T> {
 const MARGIN: usize = 3;
 
 impl<T: Copy> Lent<T> {
-    fn random(random: &mut Random, length: usize, cell: fn(&mut Random) -> T) -> Self {
+    pub fn random(random: &mut Random, length: usize, cell: fn(&mut Random) -> T) -> Self {
         let cells = (0..length + 2 * MARGIN).map(|_| cell(random)).collect();
         Lent { cells, length }
     }
@@ -153,6 +174,16 @@ impl<T: Copy> Lent<T> {
         let cells = [&margin(), contents, &margin()].concat();
         let length = contents.len();
         Lent { cells, length }
+    }
+
+    fn none() -> Self
+    where
+        T: Default,
+    {
+        Lent {
+            cells: vec![T::default(); 2 * MARGIN],
+            length: 0,
+        }
     }
 
     pub fn get(&self) -> &[T] {
@@ -192,6 +223,12 @@ pub struct Memory {
     pub remainder: u64,
     /// Trace, offset and length that `BrokenLine` finds; no other call is lent them.
     pub part: [u64; 3],
+    /// What waits for the machines of a bench, and their numbers with the last one served; only the
+    /// calls on a bench are lent them.
+    pub queues: Lent<u8>,
+    pub numbers: Lent<u32>,
+    /// The machine that `BenchTurn` serves; the other calls leave it.
+    pub served: u64,
 }
 
 impl Memory {
@@ -211,6 +248,9 @@ impl Memory {
             checked_word: random.word(),
             remainder: random.word(),
             part: [0; 3],
+            queues: Lent::none(),
+            numbers: Lent::none(),
+            served: 0,
         }
     }
 }
@@ -236,6 +276,7 @@ pub struct Mismatch(pub String);
 pub fn compare(call: &Call, memory: Memory) -> Result<Outcome, Mismatch> {
     let mut lent_call = call.clone();
     let tally = memory.tally;
+    let numbers = memory.numbers.get().to_vec();
     let (mut by_library, mut by_reference) = (memory.clone(), memory);
     let code = library(&mut lent_call, &mut by_library);
     let due = code_of(reference_call(call, &mut by_reference));
@@ -254,7 +295,10 @@ pub fn compare(call: &Call, memory: Memory) -> Result<Outcome, Mismatch> {
             line: due as u32,
             memory: by_reference,
         }),
-        false => Err(Mismatch(told(call, tally, &by_reference, &differences))),
+        false => {
+            let before = (tally, &numbers[..]);
+            Err(Mismatch(told(call, before, &by_reference, &differences)))
+        }
     }
 }
 
@@ -310,6 +354,20 @@ fn library(call: &mut Call, memory: &mut Memory) -> u64 {
         }
         Name::DearestGraph => raw::dearest_graph(call.size(), memory.text.get_mut(), answer),
         Name::BufferGraph => raw::buffer_graph(call.size(), memory.text.get_mut(), answer),
+        Name::BenchAdd => {
+            let (queues, numbers) = (memory.queues.get_mut(), memory.numbers.get_mut());
+            raw::bench_add(net, latches, queues, numbers, call.machine(), bytes)
+        }
+        Name::BenchTurn => raw::bench_turn(
+            net,
+            latches,
+            values,
+            memory.queues.get_mut(),
+            memory.numbers.get_mut(),
+            &mut memory.served,
+            answer,
+            checked_word,
+        ),
     }
 }
 
@@ -368,6 +426,24 @@ fn reference_call(call: &Call, memory: &mut Memory) -> Result<(), Refusal> {
         }
         Name::DearestGraph => reference::dearest_graph(call.size(), memory.text.get_mut())? as u64,
         Name::BufferGraph => reference::buffer_graph(call.size(), memory.text.get_mut())? as u64,
+        Name::BenchAdd => {
+            let (queues, numbers) = (memory.queues.get_mut(), memory.numbers.get_mut());
+            return reference::bench_add(net, latches, queues, numbers, call.machine(), bytes);
+        }
+        Name::BenchTurn => {
+            let (queues, numbers) = (memory.queues.get_mut(), memory.numbers.get_mut());
+            match reference::bench_turn(net, latches, values, queues, numbers)? {
+                Turn::Idle => {
+                    memory.served = 8;
+                    return Ok(());
+                }
+                Turn::Served { machine, words } => {
+                    memory.served = machine as u64;
+                    memory.checked_word = words.checked;
+                    words.accept
+                }
+            }
+        }
     };
     memory.answer = answer;
     Ok(())
@@ -413,6 +489,9 @@ fn memory_differences(found: &Memory, due: &Memory) -> String {
     for (place, what) in ["trace", "offset", "length"].iter().enumerate() {
         differences += &word_difference(what, found.part[place], due.part[place]);
     }
+    differences += &buffer_difference("queues", &found.queues, &due.queues);
+    differences += &buffer_difference("numbers of the bench", &found.numbers, &due.numbers);
+    differences += &word_difference("machine", found.served, due.served);
     differences
 }
 
@@ -438,7 +517,9 @@ fn buffer_difference<T: PartialEq + Debug>(what: &str, found: &Lent<T>, due: &Le
     }
 }
 
-fn told(call: &Call, tally: Tally, memory: &Memory, differences: &str) -> String {
+/// `before` are the tally and the numbers of a bench before the call.
+fn told(call: &Call, before: (Tally, &[u32]), memory: &Memory, differences: &str) -> String {
+    let (tally, numbers) = before;
     if let Some(session) = &call.session {
         return format!("call: {:?}\n{session}\n{differences}", call.name);
     }
@@ -454,6 +535,20 @@ fn told(call: &Call, tally: Tally, memory: &Memory, differences: &str) -> String
         return format!(
             "call: {:?}\nfor {size}, text of {lent} bytes lent\n{differences}",
             call.name
+        );
+    }
+    if matches!(call.name, Name::BenchAdd | Name::BenchTurn) {
+        return format!(
+            "call: {:?}\nfor machine {:?}: \"{}\"\nnetlists: {:?}\nbefore: {numbers:?}\n\
+             buffer lengths: netlists {}, latches {}, values {}, queues {}\n{differences}",
+            call.name,
+            call.machine,
+            escaped(&call.bytes),
+            call.net,
+            call.net.len(),
+            memory.latches.length,
+            memory.values.length,
+            memory.queues.length,
         );
     }
     format!(

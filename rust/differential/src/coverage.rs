@@ -1,21 +1,23 @@
 //! How often each call was accepted, and refused with each number; of the graphs how often
 //! each rule chose their terminal edges, what they have of names wider than a bit, and how many
 //! without operators reach the bound of their gates; what the calls have of a second output; of
-//! packed files what they have and are refused for; of texts in what order their gates stand; and
-//! of stroke buffers what their cycles count.
+//! packed files what they have and are refused for; of texts in what order their gates stand; of
+//! stroke buffers what their cycles count; and of benches whom their turns serve and what their
+//! calls are refused for.
 
 use crate::compare::{Name, Outcome};
 use crate::counts::Counts;
 use crate::forms::Forms;
 use crate::kinds::Kinds;
 use crate::orders::Orders;
+use crate::rounds::Rounds;
 use crate::stakes::Stakes;
 use reference::{Edge, Graph, Operand, Outputs};
 use std::collections::BTreeMap;
 use std::fmt;
 
 /// Every number each call can be refused with; `BrokenLine` never is.
-const REFUSALS: [(Name, &[u32]); 16] = [
+const REFUSALS: [(Name, &[u32]); 18] = [
     (Name::Build, &[1, 2, 3, 4, 5, 6, 7, 8, 9, 10, 11, 12, 19]),
     (
         Name::BuildChecked,
@@ -35,6 +37,8 @@ const REFUSALS: [(Name, &[u32]); 16] = [
     (Name::SessionPage, &[1, 12, 22]),
     (Name::DearestGraph, &[12, 24]),
     (Name::BufferGraph, &[12, 20]),
+    (Name::BenchAdd, &[12, 15, 16, 17, 27, 28]),
+    (Name::BenchTurn, &[12, 16, 17]),
 ];
 
 /// What a graph's first line says, and which of its edges are marked.
@@ -63,6 +67,8 @@ pub struct Coverage {
     pub orders: Orders,
     /// Runs of stroke buffers.
     pub counts: Counts,
+    /// Calls on benches.
+    pub rounds: Rounds,
     /// Cycles judged by their paths, and those rejected by one; and of them those of graphs
     /// that compare names of several bits.
     path_cycles: u64,
@@ -181,6 +187,7 @@ impl Coverage {
         gaps.extend(self.forms.gaps());
         gaps.extend(self.orders.gaps());
         gaps.extend(self.counts.gaps());
+        gaps.extend(self.rounds.gaps());
         if self.path_rejected == 0 || self.path_rejected == self.path_cycles {
             gaps.push("paths".into());
         }
@@ -261,6 +268,7 @@ impl fmt::Display for Coverage {
         writeln!(f, "{}", self.forms)?;
         writeln!(f, "{}", self.orders)?;
         writeln!(f, "{}", self.counts)?;
+        writeln!(f, "{}", self.rounds)?;
         writeln!(
             f,
             "lines handed back: {} of the flywheel, {} of the handle, {} empty",

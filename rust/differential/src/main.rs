@@ -2,7 +2,7 @@
 //! damaged inputs: returns, out-parameters and every cell of every buffer, also
 //! after refusals; the place of a line that is handed back in the caller's memory;
 //! tallies, output words, verdict bytes and the verdicts of runs with the paths of the graph;
-//! and the verdict bytes of stroke buffers with their count.
+//! the verdict bytes of stroke buffers with their count; and of benches how long each machine waits.
 
 mod aigers;
 mod bench;
@@ -18,6 +18,7 @@ mod gates;
 mod graphs;
 mod kinds;
 mod loose;
+mod machines;
 mod netlists;
 mod orders;
 mod packed;
@@ -26,6 +27,7 @@ mod pages;
 mod random;
 mod rates;
 mod round_trip;
+mod rounds;
 mod sequence;
 mod sessions;
 mod shuffled;
@@ -33,6 +35,7 @@ mod stakes;
 mod sweep;
 mod texts;
 mod traces;
+mod turns;
 mod widths;
 
 use bench::Bench;

@@ -2,14 +2,15 @@
 //! lines as a graph, names of every width and short formulas over them, every count of
 //! outputs, packed files of every small kind, texts whose gates stand in every order, every pair
 //! of some numbers as a tally and every three of some, sessions of every small kind, session
-//! pages of every small kind and of the largest, every dearest graph, and every stroke buffer's,
-//! with some runs of each.
+//! pages of every small kind and of the largest, every dearest graph, every stroke buffer's,
+//! with some runs of each, and benches of small machines with every change of one cell.
 
 use crate::bench::Bench;
 use crate::buffers;
 use crate::checked;
 use crate::compare::{Call, Lengths, Memory, Mismatch, Name};
 use crate::graphs::{MODES, WRONG_MODES};
+use crate::machines;
 use crate::packed;
 use crate::pages::{compare_page_into, needed, MAX_CYCLES};
 use crate::rates;
@@ -106,6 +107,7 @@ pub fn sweep(bench: &mut Bench) -> Result<usize, Mismatch> {
     count += sweep_pages(bench)?;
     count += texts::sweep(bench)?;
     count += buffers::sweep(bench)?;
+    count += machines::sweep(bench)?;
     Ok(count)
 }
 

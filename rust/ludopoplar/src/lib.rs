@@ -3,7 +3,8 @@
 //!
 //! Each function is one call of the C interface; `first_broken` hands back a part of what
 //! it was lent, and makes a second call where that is empty. A refused call leaves every buffer and the tally as they
-//! were; a longer buffer keeps its surplus.
+//! were; a longer buffer keeps its surplus. `Bench` owns what the two calls on eight machines are
+//! lent.
 //!
 //! A circuit has one output, accept, or two, accept and checked. Every function that takes a
 //! netlist or a file takes either. With two outputs a session is run from its start on by
@@ -11,7 +12,10 @@
 //! was at stake; `start`, `step` and `run` are for callers who do not ask for that number, and
 //! a session that mixes both counts it in part only.
 
+mod bench;
 pub mod raw;
+
+pub use bench::{Bench, Place, NO_MACHINE};
 
 /// Why a call was turned down: a number of document 01's table or of document 02's
 /// answers, and the line at fault (0 where there is none).
@@ -98,6 +102,15 @@ impl Verdict {
 pub struct Rate {
     pub whole: u64,
     pub remainder: u64,
+}
+
+/// What a turn of a bench did.
+#[derive(Clone, Copy, Debug, PartialEq, Eq)]
+pub enum Turn {
+    /// No cycle waits.
+    Idle,
+    /// This machine was stepped, with these output words.
+    Served { machine: u32, words: Words },
 }
 
 /// One of the two traces of a session.
@@ -448,4 +461,65 @@ pub fn buffer_graph(strokes: u64, text: &mut [u8]) -> Result<usize, Refusal> {
     let mut length = 0;
     Refusal::check(raw::buffer_graph(strokes, text, &mut length))?;
     Ok(length as usize)
+}
+
+/// Puts a new cycle behind those that wait for a machine, 0 to 7, of a bench of eight places.
+/// `Bench` owns such places.
+///
+/// `nets`, `latches` and `queues` are eight equal parts each, of an eighth of the length, rounded
+/// down, part k being that of machine k; a rest behind them is not touched. In a part of `queues`
+/// the waiting cycles stand oldest first, each in the first bytes of a slot of 64. `numbers` has
+/// for each place how many cycles wait and its cycles, rejected and checked, and as its 33rd the
+/// last machine served. Begin with none waiting and 7 as the last one, and with each place started
+/// by `start_checked`.
+///
+/// Refused with 27 where `machine` is above 7; then 16 where any of the eight places has no
+/// netlist, more than 16 waiting cycles, fewer slots than that or a waiting cycle that is none,
+/// where the last one served is above 7 or where `numbers` has fewer than 33; 28 where 16 cycles
+/// wait for the machine; 15, line 1; 12 where its latch words are too few, or no whole slot is
+/// left; 17 where a number of its tally would pass 4,294,967,295 with those waiting and this one.
+pub fn bench_add(
+    nets: &[u16],
+    latches: &[u64],
+    queues: &mut [u8],
+    numbers: &mut [u32],
+    machine: u32,
+    cycle: &[u8],
+) -> Result<(), Refusal> {
+    Refusal::check(raw::bench_add(
+        nets, latches, queues, numbers, machine, cycle,
+    ))
+}
+
+/// Steps the next machine, in the round after the last one served, that has a cycle waiting, with
+/// its oldest cycle; those behind it move one slot forward, and the slot that is freed keeps its
+/// bytes. The buffers are those of `bench_add`; one row of `values` serves all machines.
+///
+/// Refused with 16 as `bench_add` is, also where no cycle waits; then, for the machine that would
+/// be stepped, with 12 and 17 as `step_checked` is. That machine is then the next one still.
+pub fn bench_turn(
+    nets: &[u16],
+    latches: &mut [u64],
+    values: &mut [u64],
+    queues: &mut [u8],
+    numbers: &mut [u32],
+) -> Result<Turn, Refusal> {
+    let (mut served, mut accept, mut checked) = (0, 0, 0);
+    Refusal::check(raw::bench_turn(
+        nets,
+        latches,
+        values,
+        queues,
+        numbers,
+        &mut served,
+        &mut accept,
+        &mut checked,
+    ))?;
+    Ok(match served {
+        0..=7 => Turn::Served {
+            machine: served as u32,
+            words: Words { accept, checked },
+        },
+        _ => Turn::Idle,
+    })
 }

@@ -1,6 +1,6 @@
 //! The C interface as it stands: each call returns 0 where it is accepted, else
 //! number × 2^32 + line, and a refusal leaves its out-parameters as they were.
-//! `broken_line` is never refused.
+//! `broken_line` is never refused; `bench_turn` serves 8 where it is idle, and leaves both words.
 
 mod c {
     extern "C" {
@@ -183,10 +183,40 @@ mod c {
             text_len: usize,
             length: *mut u64,
         ) -> u64;
+
+        pub fn ludo_bench_add(
+            nets: *const u16,
+            nets_len: usize,
+            latches: *const u64,
+            latches_len: usize,
+            queues: *mut u8,
+            queues_len: usize,
+            bench: *mut u32,
+            bench_len: usize,
+            machine: u32,
+            cycle: *const u8,
+            cycle_len: usize,
+        ) -> u64;
+
+        pub fn ludo_bench_turn(
+            nets: *const u16,
+            nets_len: usize,
+            latches: *mut u64,
+            latches_len: usize,
+            values: *mut u64,
+            values_len: usize,
+            queues: *mut u8,
+            queues_len: usize,
+            bench: *mut u32,
+            bench_len: usize,
+            served: *mut u64,
+            word: *mut u64,
+            checked_word: *mut u64,
+        ) -> u64;
     }
 }
 
-// SAFETY, of all seventeen: every pointer comes from a reference or a slice that lives
+// SAFETY, of all nineteen: every pointer comes from a reference or a slice that lives
 // through the call, with that slice's own length; the exclusive borrows keep what
 // the library writes apart from all else; the library keeps no pointer.
 
@@ -481,4 +511,60 @@ pub fn dearest_graph(edges: u64, text: &mut [u8], length: &mut u64) -> u64 {
 
 pub fn buffer_graph(strokes: u64, text: &mut [u8], length: &mut u64) -> u64 {
     unsafe { c::ludo_buffer_graph(strokes, text.as_mut_ptr(), text.len(), length) }
+}
+
+pub fn bench_add(
+    nets: &[u16],
+    latches: &[u64],
+    queues: &mut [u8],
+    bench: &mut [u32],
+    machine: u32,
+    cycle: &[u8],
+) -> u64 {
+    unsafe {
+        c::ludo_bench_add(
+            nets.as_ptr(),
+            nets.len(),
+            latches.as_ptr(),
+            latches.len(),
+            queues.as_mut_ptr(),
+            queues.len(),
+            bench.as_mut_ptr(),
+            bench.len(),
+            machine,
+            cycle.as_ptr(),
+            cycle.len(),
+        )
+    }
+}
+
+// As many arguments as the C function has.
+#[allow(clippy::too_many_arguments)]
+pub fn bench_turn(
+    nets: &[u16],
+    latches: &mut [u64],
+    values: &mut [u64],
+    queues: &mut [u8],
+    bench: &mut [u32],
+    served: &mut u64,
+    word: &mut u64,
+    checked_word: &mut u64,
+) -> u64 {
+    unsafe {
+        c::ludo_bench_turn(
+            nets.as_ptr(),
+            nets.len(),
+            latches.as_mut_ptr(),
+            latches.len(),
+            values.as_mut_ptr(),
+            values.len(),
+            queues.as_mut_ptr(),
+            queues.len(),
+            bench.as_mut_ptr(),
+            bench.len(),
+            served,
+            word,
+            checked_word,
+        )
+    }
 }

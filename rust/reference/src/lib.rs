@@ -1,5 +1,5 @@
-//! Document 01, as Nos. 1, 2, 3, 5, 7 and 10 of document 02 change it, and Nos. 6, 8, 9, 11 and
-//! 12 of document 02, once more in plain safe Rust, written from their sentences alone, No. 6
+//! Document 01, as Nos. 1, 2, 3, 5, 7 and 10 of document 02 change it, and Nos. 6, 8, 9, 11, 12 and
+//! 13 of document 02, once more in plain safe Rust, written from their sentences alone, No. 6
 //! also from the listing of source document 001, section 5; and what the program `sheet` prints.
 //!
 //! Nothing here is proved and nothing is meant to be fast: each module follows
@@ -7,6 +7,7 @@
 //! library is compared with this crate by the program `differential`.
 
 mod aiger;
+mod bench;
 mod broken;
 mod builder;
 mod formula;
@@ -28,6 +29,7 @@ mod texts;
 mod trace;
 
 pub use aiger::{read, write, write_packed};
+pub use bench::{bench_add, bench_turn, Turn};
 pub use broken::{broken_check, first_broken, Part, Trace};
 pub use builder::{build, formula_of_gates, Outputs};
 pub use formula::{parse as parse_formula, Formula, Operator, Parsed};

@@ -31,6 +31,8 @@ pub enum Cause {
     EdgesOutOfRange = 24,
     VerdictsWrong = 25,
     WidthOutOfRange = 26,
+    NoMachine = 27,
+    QueueFull = 28,
 }
 
 /// "Every refusal returns its number and a line"; line 0 where no line is at fault.

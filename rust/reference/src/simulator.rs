@@ -110,7 +110,7 @@ fn check_words(netlist: &Netlist, latches: &[u64], values: &[u64]) -> Result<(),
 
 /// "Cycles or rejected + new cycles over 4,294,967,295"; and "17 guards" the third number
 /// "too, also with O = 1".
-fn check_tally(tally: &Tally, new_cycles: usize) -> Result<(), Refusal> {
+pub fn check_tally(tally: &Tally, new_cycles: usize) -> Result<(), Refusal> {
     let room = |count: u32| (u32::MAX - count) as usize >= new_cycles;
     match room(tally.cycles) && room(tally.rejected) && room(tally.checked) {
         true => Ok(()),

@@ -1,0 +1,10 @@
+-- `put_header` meets its contract: the tag, two numbers with a blank each, and a line of three. Assumes nothing.
+use Rattle.text.proofs.WriterLaws.{then}
+use Rattle.aiger.specs.Rows.{line}
+use Rattle.aiger.proofs.RowLaws.{field}
+use Rattle.aiger.proofs.put_header.Goals as goal
+
+pub returns : goal.returns
+unfolding line
+returns c =
+    then c.put_bytes-p1.ensures (field _ 32 c.put_field-p2.ensures (field _ 32 c.put_field-p3.ensures c.put_three.ensures))

@@ -1,0 +1,9 @@
+-- `put_three` meets its contract. Assumes nothing.
+use Rattle.aiger.specs.Rows.{line}
+use Rattle.aiger.proofs.RowLaws.{field}
+use Rattle.aiger.proofs.put_three.Goals as goal
+
+pub returns : goal.returns
+unfolding line
+returns c =
+    field _ 32 c.put_field-p.ensures c.put_two.ensures

@@ -1,0 +1,12 @@
+-- `text_outcome` meets its contract. Assumes nothing.
+use Rattle.aiger_file.specs.Read.{text_outcome}
+use borrow.Author.Rules.{rules}
+use Rattle.aiger_file.proofs.text_outcome.Goals as goal
+
+pub returns-in-Numbers : goal.returns-in-Numbers
+unfolding text_outcome
+returns-in-Numbers c = rw c.in-Numbers.is
+
+pub returns-in-Refused : goal.returns-in-Refused
+unfolding text_outcome
+returns-in-Refused c = rw (c.in-Refused.is, c.text_cause.ensures)

@@ -1,0 +1,22 @@
+-- `latches_at` meets its contract. Assumes nothing.
+use mathlib.Core.Bool.{true}
+use mathlib.Core.Path.{refl}
+use Rattle.netlist.proofs.LiteralLaws.{made}
+use native.Mathlib.Omega.{arith}
+use Rattle.aiger_lines.proofs.PassLaws.{within-past}
+use Rattle.aiger_read.proofs.PassLaws.{latches_then, latches-failed}
+use borrow.Author.Rules.{rules}
+use Rattle.aiger_read.proofs.files.latches_at.Goals as goal
+
+pub outputs_at-requires : goal.outputs_at-requires
+outputs_at-requires c =
+    let pre = c.requires in
+    (pre.0, omega (arith, within-past c.block_at.ensures.within c.in-Past.is, pre.0, pre.1))
+
+pub returns-in-Past : goal.returns-in-Past
+returns-in-Past c =
+    latches_then c.args.s.now c.args.head c.args.from _ (made _ true (omega (arith, c.requires.0.2)) c.literal-last.ensures) _ _ _ _ refl _ _ _ c.block_at.ensures.took c.in-Past.is c.outputs_at.ensures
+
+pub returns-in-Failed : goal.returns-in-Failed
+returns-in-Failed c =
+    latches-failed c.args.s.now c.args.head c.args.from _ (made _ true (omega (arith, c.requires.0.2)) c.literal-last.ensures) _ _ _ _ refl _ _ c.block_at.ensures.took c.in-Failed.is

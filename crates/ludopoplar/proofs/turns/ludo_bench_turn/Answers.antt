@@ -1,0 +1,22 @@
+-- `ludo_bench_turn` meets its contract: each case of the answer fixes code and results. Assumes nothing.
+use borrow.Author.Rules.{rules}
+use Rattle.ludopoplar.proofs.BenchLaws.{call_turns, turn_idle, turn_served, turn_refused, turn_ends}
+use Rattle.ludopoplar.proofs.turns.ludo_bench_turn.Goals as goal
+
+pub returns-in-Idle : goal.returns-in-Idle
+returns-in-Idle c =
+    let t = c.turn-turned in
+    let e = turn_ends c.args.nets.now c.args.latches.now c.args.values.now c.args.queues.now c.args.bench.now c.args.served.now c.args.word.now c.args.checked_word.now t.result _ _ _ _ t.ensures.bench_after _ (turn_idle t.result _ _ _ _ _ _ _ c.in-Idle.is) in
+    record { checked_word_after = e; turns = call_turns _ _ _ _ _ _ _ _ _ e; bench = t.ensures.bench }
+
+pub returns-in-Served : goal.returns-in-Served
+returns-in-Served c =
+    let t = c.turn-turned in
+    let e = turn_ends c.args.nets.now c.args.latches.now c.args.values.now c.args.queues.now c.args.bench.now c.args.served.now c.args.word.now c.args.checked_word.now t.result _ _ _ _ t.ensures.bench_after _ (turn_served t.result _ _ _ _ _ _ _ _ _ _ c.in-Served.is) in
+    record { checked_word_after = e; turns = call_turns _ _ _ _ _ _ _ _ _ e; bench = t.ensures.bench }
+
+pub returns-in-Refused : goal.returns-in-Refused
+returns-in-Refused c =
+    let t = c.turn-turned in
+    let e = turn_ends c.args.nets.now c.args.latches.now c.args.values.now c.args.queues.now c.args.bench.now c.args.served.now c.args.word.now c.args.checked_word.now t.result _ _ _ _ t.ensures.bench_after _ (turn_refused t.result _ _ _ _ _ _ _ _ c.in-Refused.is _ c.refusal.ensures _ c.code.ensures) in
+    record { checked_word_after = e; turns = call_turns _ _ _ _ _ _ _ _ _ e; bench = t.ensures.bench }

@@ -1,0 +1,6 @@
+-- Each case ends after it starts.
+use Rattle.std.proofs.Common.{◌-◌, length}
+use Rattle.packed_cases.proofs.cases.Given as goal
+
+abbrev pub decreases-loop-at : goal.decreases-loop-at
+decreases-loop-at g l = length l.input - l.at

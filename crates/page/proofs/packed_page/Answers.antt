@@ -1,0 +1,13 @@
+-- `packed_page` meets its contract. Assumes nothing.
+use borrow.Author.Rules.{rules}
+use Rattle.page.specs.Pages.{packed_text}
+use Rattle.page.specs.Private.Files.{file_in, file_text}
+use Rattle.packed.specs.Format.{packed_of}
+use Rattle.page.proofs.FileLaws.{file-page}
+use Rattle.page.proofs.packed_page.Goals as goal
+
+pub returns : goal.returns
+unfolding packed_text file_text file_in
+returns c =
+    let e = c.graph_file.ensures in
+    record { out_after = e.out_after; fits = e.fits; prints = file-page packed_of _ }

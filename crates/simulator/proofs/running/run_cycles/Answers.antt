@@ -1,0 +1,59 @@
+-- `simulator::running::run_cycles` meets its contract: what is still to run gives what the whole run gives. Assumes nothing.
+use mathlib.Core.Path.{◌≡◌, refl, ◌∙◌}
+use Prim.Native.Nat.{◌+◌}
+use native.Mathlib.Omega.{arith}
+use lib.ListN.{length}
+use borrow.Author.Rules.{rules}
+use Rattle.simulator.proofs.RunLaws.{asked, length_part, ready, bytes_enough, going_start, going_line, going_place, going_room, going_next, going_done}
+use Rattle.simulator.proofs.running.run_cycles.Goals as goal
+
+pub loop-k-init : goal.loop-k-init
+loop-k-init c =
+    let a = asked _ _ _ _ _ _ _ _ c.requires c.header-n.ensures.0 refl in
+    (a, going_start _ _ _ _ _ _ _ _ a)
+
+pub advance-words-requires : goal.advance-words-requires
+advance-words-requires c =
+    let i = c.loop-k.invariant in
+    let p = ready _ _ _ _ _ _ _ _ i.0 in
+    let h = going_line _ _ _ _ _ _ _ _ _ _ _ _ _ _ i.1 i.0 c.loop-k-test.true in
+    let e : length c.next_cycle-cycle.result.now ≡ c.header-n.result = rw c.next_cycle-cycle.ensures (length_part c.args.trace.now c.loop-k.at c.header-n.result (omega arith)) in
+    record { net_value = p.netlist; cycle_len = e ∙ i.0.inputs; net_in_bounds = rw i.1.latches-length p.latches; net_in_bounds_2 = rw i.1.values_length p.values }
+
+pub bounds-verdicts-k : goal.bounds-verdicts-k
+bounds-verdicts-k c =
+    let i = c.loop-k.invariant in
+    let t = c.loop-k-test.true in
+    let e = i.1.verdicts-length in
+    let b = bytes_enough _ _ _ _ _ _ _ _ i.0 in
+    omega arith
+
+pub tallied-total-requires : goal.tallied-total-requires
+tallied-total-requires c = going_room _ _ _ _ _ _ _ _ _ _ _ _ _ _ c.loop-k.invariant.1 c.loop-k-test.true
+
+pub overflow_add-k : goal.overflow_add-k
+overflow_add-k c =
+    let b = bytes_enough _ _ _ _ _ _ _ _ c.loop-k.invariant.0 in
+    let t = c.loop-k-test.true in
+    omega (arith, c.well_formed)
+
+pub loop-k-preserved : goal.loop-k-preserved
+loop-k-preserved c =
+    let i = c.loop-k.invariant in
+    let t = c.loop-k-test.true in
+    let e : c.next_place-at.result ≡ c.loop-k.at + (c.header-n.result + 1) = going_place _ _ _ _ _ _ _ _ _ _ _ _ _ _ i.1 i.0 t _ c.next_place-at.ensures in
+    let a = c.advance-words in (
+      i.0,
+      rw e (going_next _ _ _ _ _ _ _ _ _ _ _ _ _ _ i.1 i.0 t c.next_cycle-cycle.result.now c.next_cycle-cycle.ensures
+          a.result.accept a.result.checked _ _ a.ensures.0 a.ensures.1 a.ensures.2 a.ensures.3 (search rules) (search rules) c.verdict_byte.result c.verdict_byte.ensures c.tallied-total.result c.tallied-total.ensures),
+    )
+
+pub verdict-judged-requires : goal.verdict-judged-requires
+verdict-judged-requires c =
+    let i = c.loop-k.invariant in
+    let e = i.1.verdicts-length in
+    let b = bytes_enough _ _ _ _ _ _ _ _ i.0 in
+    omega arith
+
+pub returns : goal.returns
+returns c = going_done _ _ _ _ _ _ _ _ _ _ _ _ _ _ c.loop-k.invariant.1 c.loop-k.invariant.0 c.loop-k-test.false c.verdict-judged.result c.verdict-judged.ensures

@@ -1,5 +1,6 @@
 -- THE CLAIM: a netlist is written exactly where there is room for its file, which its own numbers settle and
 -- which has at most 65,536 bytes. Assumes nothing.
+use Rattle.std.specs.Prelude.{Ok}
 use mathlib.Core.Path.{◌≡◌}
 use mathlib.Core.Bool.{true, false}
 use mathlib.Core.List.{List, ◌++◌}
@@ -10,17 +11,16 @@ use Rattle.netlist.specs.Valid.{is_netlist}
 use Rattle.aiger.specs.Format.{file_of}
 use Rattle.aiger.specs.Write.{write_end, write_as, write_of}
 use Rattle.aiger.specs.Claims.{WriteMeans}
-use Rattle.aiger.specs.declared.Written.TheVariants.{Bytes}
 use Rattle.aiger.proofs.WriteLaws.{written, written-only}
 use Rattle.aiger.proofs.LengthLaws.{file-length}
 use Rattle.aiger.proofs.FormatLaws.{file-same, fronts_same, fronts_netlist}
 
 writes : (net text : List ℕ) → is_netlist net ≡ true → length (file_of net) ≤ length text
-    → write_of net text ≡ write_end (Bytes (length (file_of net))) (file_of net ++ drop (length (file_of net)) text)
+    → write_of net text ≡ write_end (Ok (length (file_of net))) (file_of net ++ drop (length (file_of net)) text)
 unfolding write_of
 writes net text = written (file_of net) net text
 
-only : (net text : List ℕ) (n : ℕ) (after : List ℕ) → write_of net text ≡ write_end (Bytes n) after
+only : (net text : List ℕ) (n : ℕ) (after : List ℕ) → write_of net text ≡ write_end (Ok n) after
     → (is_netlist net ≡ true) × (length (file_of net) ≤ length text)
 unfolding write_of
 only net text n after = written-only (file_of net) net text n after

@@ -9,14 +9,16 @@ use borrow.Author.Tests.{eq-eqb, ne_eqb}
 use lib.ListN.{length, get_or, take, drop, length-drop}
 use lib.Seq.{get_or-take, get_or-drop, length-take-le}
 use Rattle.text.specs.Numbers.{digits}
-use Rattle.text.specs.Writer.{Wrote, joined}
-use Rattle.text.proofs.WriterLaws.{then, joined_same}
+use Rattle.text.specs.declared.writer.Writer.{Writer}
+use Rattle.text.specs.Writer.{Writes, joined}
+use Rattle.text.proofs.WriterLaws.{joined_same}
+use Rattle.text.proofs.WritingLaws.{then}
 use Rattle.netlist.specs.Layout.{latch_count, output_count}
 use Rattle.aiger.specs.Rows.{line, literal_row, latch_row}
 use Rattle.aiger.specs.Format.{output_line}
 
 -- a number with the byte after it, and then a text, are written as the number before the byte and the text
-pub field : {l m r : List ℕ} {i j k : ℕ} (n b : ℕ) {t : List ℕ} → Wrote l m i j (digits n ++ (b ∷ [])) → Wrote m r j k t → Wrote l r i k (digits n ++ (b ∷ t))
+pub field : {l m r : Writer} (n b : ℕ) {t : List ℕ} → Writes l m (digits n ++ (b ∷ [])) → Writes m r t → Writes l r (digits n ++ (b ∷ t))
 field n b {t} p q = rw (append_assoc (digits n) (b ∷ []) t) at (then p q)
 
 module _ (lit next reset : ℕ) where
@@ -29,9 +31,9 @@ module _ (lit next reset : ℕ) where
   latch_reset explicit h = rw (ne_eqb reset 0 h)
 
 -- the outputs stand one after the other
-pub outputs-written : {l r : List ℕ} {i k : ℕ} (net : List ℕ) (from to : ℕ) → from ≡ 5 + 2 * latch_count net → to ≡ from + output_count net → to ≤ length net
-    → Wrote l r i k (joined (λ (n : ℕ). literal_row (get_or (take (to - from) (drop from net)) n 0)) (length (take (to - from) (drop from net))))
-    → Wrote l r i k (joined (output_line net) (output_count net))
+pub outputs-written : {l r : Writer} (net : List ℕ) (from to : ℕ) → from ≡ 5 + 2 * latch_count net → to ≡ from + output_count net → to ≤ length net
+    → Writes l r (joined (λ (n : ℕ). literal_row (get_or (take (to - from) (drop from net)) n 0)) (length (take (to - from) (drop from net))))
+    → Writes l r (joined (output_line net) (output_count net))
 unfolding output_line
 outputs-written net from to h g long w =
     let count : to - from ≡ output_count net = omega arith in

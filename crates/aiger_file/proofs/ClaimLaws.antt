@@ -1,5 +1,6 @@
 -- THE CLAIM, from the claims of the two readers: which of them answers, that exactly the files in the two forms are
 -- taken, and that both forms of a netlist read alike. Assumes nothing.
+use Rattle.std.specs.Prelude.{Result, Ok, Err}
 use mathlib.Core.Path.{◌≡◌, refl, sym, ap, ap₂, ◌∙◌}
 use mathlib.Core.Bool.{Bool, true, false, true≢false}
 use mathlib.Core.List.{List, ◌++◌}
@@ -24,22 +25,17 @@ use Rattle.aiger_lines.specs.Heads.{has_tag, head_at, on_head}
 use Rattle.aiger_lines.proofs.HeadLaws.{tag_at}
 use Rattle.aiger_read.specs.declared.Cause.{Cause as TextCause}
 use Rattle.aiger_read.specs.declared.Cause.TheVariants as text
-use Rattle.aiger_read.specs.declared.ReadOutcome.{ReadOutcome as TextOutcome}
-use Rattle.aiger_read.specs.declared.ReadOutcome.TheVariants.{Numbers as TextNumbers, Refused as TextRefused}
 use Rattle.aiger_read.specs.Files.{file_read}
 use Rattle.aiger_read.specs.Read.{read_end as text_end, max_text, read_as as text_read_as, read_of as text_read_of, refusal_of as text_refusal_of}
 use Rattle.aiger_read.specs.Claims.{file_to, file_by, IsFile as IsText, ReadMeans as TextMeans}
 use Rattle.aiger_read.proofs.ClaimLaws.{read-means as text-means}
 use Rattle.packed_read.specs.declared.Cause.{Cause as PackedCause}
 use Rattle.packed_read.specs.declared.Cause.TheVariants as pack
-use Rattle.packed_read.specs.declared.ReadOutcome.{ReadOutcome as PackedOutcome}
-use Rattle.packed_read.specs.declared.ReadOutcome.TheVariants.{Numbers as PackedNumbers, Refused as PackedRefused}
 use Rattle.packed_read.specs.Read.{read_end as packed_end, read_of as packed_read_of, refusal_of as packed_refusal_of}
 use Rattle.packed_read.specs.Claims.{IsPacked, PackedMeans}
 use Rattle.packed_read.proofs.ClaimLaws.{read-means as packed-means}
+use Rattle.aiger_file.specs.declared.Cause.{Cause}
 use Rattle.aiger_file.specs.declared.Cause.TheVariants.{TextTooLong, ShortBuffer, FaultyLine, FaultyRun, WaitingGates}
-use Rattle.aiger_file.specs.declared.ReadOutcome.{ReadOutcome}
-use Rattle.aiger_file.specs.declared.ReadOutcome.TheVariants.{Numbers, Refused}
 use Rattle.aiger_file.specs.Read.{refusal_of, text_cause, packed_cause, text_outcome, packed_outcome, ReadEnd, read_end, text_read_end, packed_read_end, read_of}
 use Rattle.aiger_file.specs.Claims.{Form, ascii, packed, written_in, IsFile, text-file, packed-file, IsWaiting, Refuses, ReadMeans}
 use Rattle.aiger_file.proofs.KeptLaws.{kept}
@@ -101,56 +97,56 @@ packed-numbered (pack.FaultyRun WrongShape) = refl
 packed-numbered (pack.FaultyRun OutOfLimits) = refl
 
 -- the two parts of an end
-abbrev answer : ReadEnd → ReadOutcome
+abbrev answer : ReadEnd → Result ℕ Cause
 answer e = e.answer
 
 abbrev left : ReadEnd → List ℕ
 left e = e.net
 
 module _ (s buf : List ℕ) where
-  text-taken : (n : ℕ) (after : List ℕ) → read_of s buf ≡ text_read_end (text_read_of s buf) → text_read_of s buf ≡ text_end (TextNumbers n) after → read_of s buf ≡ read_end (Numbers n) after
+  text-taken : (n : ℕ) (after : List ℕ) → read_of s buf ≡ text_read_end (text_read_of s buf) → text_read_of s buf ≡ text_end (Ok n) after → read_of s buf ≡ read_end (Ok n) after
   unfolding text_read_end text_outcome
   text-taken n after e h = e ∙ rw h
 
-  text-refused : (cause : TextCause) (after : List ℕ) → read_of s buf ≡ text_read_end (text_read_of s buf) → text_read_of s buf ≡ text_end (TextRefused cause) after → read_of s buf ≡ read_end (Refused (text_cause cause)) after
+  text-refused : (cause : TextCause) (after : List ℕ) → read_of s buf ≡ text_read_end (text_read_of s buf) → text_read_of s buf ≡ text_end (Err cause) after → read_of s buf ≡ read_end (Err (text_cause cause)) after
   unfolding text_read_end text_outcome
   text-refused cause after e h = e ∙ rw h
 
-  packed-taken : (n : ℕ) (after : List ℕ) → read_of s buf ≡ packed_read_end (packed_read_of s buf) → packed_read_of s buf ≡ packed_end (PackedNumbers n) after → read_of s buf ≡ read_end (Numbers n) after
+  packed-taken : (n : ℕ) (after : List ℕ) → read_of s buf ≡ packed_read_end (packed_read_of s buf) → packed_read_of s buf ≡ packed_end (Ok n) after → read_of s buf ≡ read_end (Ok n) after
   unfolding packed_read_end packed_outcome
   packed-taken n after e h = e ∙ rw h
 
-  packed-refused : (cause : PackedCause) (after : List ℕ) → read_of s buf ≡ packed_read_end (packed_read_of s buf) → packed_read_of s buf ≡ packed_end (PackedRefused cause) after → read_of s buf ≡ read_end (Refused (packed_cause cause)) after
+  packed-refused : (cause : PackedCause) (after : List ℕ) → read_of s buf ≡ packed_read_end (packed_read_of s buf) → packed_read_of s buf ≡ packed_end (Err cause) after → read_of s buf ≡ read_end (Err (packed_cause cause)) after
   unfolding packed_read_end packed_outcome
   packed-refused cause after e h = e ∙ rw h
 
 -- what is read as numbers was so by the reader of the form
-text-numbers : (n : ℕ) (a : TextOutcome) → text_outcome a ≡ Numbers n → a ≡ TextNumbers n
+text-numbers : (n : ℕ) (a : Result ℕ TextCause) → text_outcome a ≡ Ok n → a ≡ Ok n
 unfolding text_outcome
-text-numbers n (TextNumbers m) h = cc
-text-numbers n (TextRefused cause) h = cc
+text-numbers n (Ok m) h = cc
+text-numbers n (Err cause) h = cc
 
-packed-numbers : (n : ℕ) (a : PackedOutcome) → packed_outcome a ≡ Numbers n → a ≡ PackedNumbers n
+packed-numbers : (n : ℕ) (a : Result ℕ PackedCause) → packed_outcome a ≡ Ok n → a ≡ Ok n
 unfolding packed_outcome
-packed-numbers n (PackedNumbers m) h = cc
-packed-numbers n (PackedRefused cause) h = cc
+packed-numbers n (Ok m) h = cc
+packed-numbers n (Err cause) h = cc
 
 -- and gates that wait are told by that of the text form alone
-text-waits : (a : TextOutcome) → text_outcome a ≡ Refused WaitingGates → a ≡ TextRefused text.WaitingGates
+text-waits : (a : Result ℕ TextCause) → text_outcome a ≡ Err WaitingGates → a ≡ Err text.WaitingGates
 unfolding text_outcome text_cause
-text-waits (TextNumbers n) h = cc
-text-waits (TextRefused text.TextTooLong) h = cc
-text-waits (TextRefused text.ShortBuffer) h = cc
-text-waits (TextRefused (text.FaultyLine fault line)) h = cc
-text-waits (TextRefused text.WaitingGates) h = refl
+text-waits (Ok n) h = cc
+text-waits (Err text.TextTooLong) h = cc
+text-waits (Err text.ShortBuffer) h = cc
+text-waits (Err (text.FaultyLine fault line)) h = cc
+text-waits (Err text.WaitingGates) h = refl
 
-packed-waits : (a : PackedOutcome) → packed_outcome a ≡ Refused WaitingGates → true ≡ false
+packed-waits : (a : Result ℕ PackedCause) → packed_outcome a ≡ Err WaitingGates → true ≡ false
 unfolding packed_outcome packed_cause
-packed-waits (PackedNumbers n) h = cc
-packed-waits (PackedRefused pack.TextTooLong) h = cc
-packed-waits (PackedRefused pack.ShortBuffer) h = cc
-packed-waits (PackedRefused (pack.FaultyLine fault line)) h = cc
-packed-waits (PackedRefused (pack.FaultyRun fault)) h = cc
+packed-waits (Ok n) h = cc
+packed-waits (Err pack.TextTooLong) h = cc
+packed-waits (Err pack.ShortBuffer) h = cc
+packed-waits (Err (pack.FaultyLine fault line)) h = cc
+packed-waits (Err (pack.FaultyRun fault)) h = cc
 
 -- ---- a text of neither word
 
@@ -167,7 +163,7 @@ module _ (p : PackedMeans) (t : TextMeans) where
   of_packed : {s net : List ℕ} → IsPacked s net → IsFile s net
   of_packed f = packed-file f.explicit f.netlist f.exact f.is
 
-  takes : (s net buf : List ℕ) → IsFile s net → length net ≤ length buf → read_of s buf ≡ read_end (Numbers (length net)) (net ++ drop (length net) buf)
+  takes : (s net buf : List ℕ) → IsFile s net → length net ≤ length buf → read_of s buf ≡ read_end (Ok (length net)) (net ++ drop (length net) buf)
   takes s net buf (text-file loose f g) l = text-taken s buf _ _ (by_text s buf (text-word f)) (t.takes s loose net buf f g l)
   takes s net buf (packed-file explicit h e is) l =
       packed-taken s buf _ _ (by_packed s buf (ap (has_tag (byte "i")) is ∙ packed-word net explicit))
@@ -184,7 +180,7 @@ module _ (p : PackedMeans) (t : TextMeans) where
   unfolding text_cause
   waits s buf w = text-refused s buf text.WaitingGates buf (by_text s buf (text-word w.file)) (t.waits s w.loose buf w.file w.stuck)
 
-  only : (s buf : List ℕ) (n : ℕ) (after : List ℕ) → ((k : ℕ) → get_or s k 0 < 256) → read_of s buf ≡ read_end (Numbers n) after
+  only : (s buf : List ℕ) (n : ℕ) (after : List ℕ) → ((k : ℕ) → get_or s k 0 < 256) → read_of s buf ≡ read_end (Ok n) after
       → (net : List ℕ) × IsFile s net × (is_netlist net ≡ true) × (n ≡ length net) × (after ≡ net ++ drop n buf)
   unfolding text_read_end packed_read_end
   only s buf n after each h =
@@ -198,7 +194,7 @@ module _ (p : PackedMeans) (t : TextMeans) where
       let x = t.only s buf n after (ap₂ text_end (text-numbers n _ (ap answer e)) (ap left e)) in
       (x.1, text-file x.0 x.2 x.3, (t.means s x.0 x.1 x.2 x.3).0, x.4, x.5))
 
-  stuck : (s buf after : List ℕ) → read_of s buf ≡ read_end (Refused WaitingGates) after → IsWaiting s
+  stuck : (s buf after : List ℕ) → read_of s buf ≡ read_end (Err WaitingGates) after → IsWaiting s
   unfolding text_read_end packed_read_end
   stuck s buf after h =
       by_form s buf
@@ -228,7 +224,7 @@ module _ (p : PackedMeans) (t : TextMeans) where
       inl (x.0, x.1, text-refused s buf (text.FaultyLine x.0 x.1) buf (by_text s buf e) x.2))
     where
       in_packed : has_tag (byte "i") s ≡ true
-          → ((fault : Fault) × (line : ℕ) × (packed_read_of s buf ≡ packed_end (PackedRefused (pack.FaultyLine fault line)) buf)) ⊎ ((fault : Fault) × (packed_read_of s buf ≡ packed_end (PackedRefused (pack.FaultyRun fault)) buf))
+          → ((fault : Fault) × (line : ℕ) × (packed_read_of s buf ≡ packed_end (Err (pack.FaultyLine fault line)) buf)) ⊎ ((fault : Fault) × (packed_read_of s buf ≡ packed_end (Err (pack.FaultyRun fault)) buf))
           → Faulty s buf
       in_packed e (inl x) = inl (x.0, x.1, packed-refused s buf (pack.FaultyLine x.0 x.1) buf (by_packed s buf e) x.2)
       in_packed e (inr x) = inr (x.0, packed-refused s buf (pack.FaultyRun x.0) buf (by_packed s buf e) x.1)
@@ -240,7 +236,7 @@ module _ (p : PackedMeans) (t : TextMeans) where
   -- ---- what was written
 
   back : (form : Form) (net buf : List ℕ) → is_netlist net ≡ true → size_of net ≤ length buf
-      → read_of (written_in form net) buf ≡ read_end (Numbers (size_of net)) (take (size_of net) net ++ drop (size_of net) buf)
+      → read_of (written_in form net) buf ≡ read_end (Ok (size_of net)) (take (size_of net) net ++ drop (size_of net) buf)
   unfolding written_in file_of packed_of
   back packed net buf h l = packed-taken _ buf _ _ (by_packed _ buf (packed-word net (λ _. false))) (p.back net buf h l)
   back ascii net buf h l = text-taken _ buf _ _ (by_text _ buf (written-word net (λ _. false))) (t.back net buf h l)

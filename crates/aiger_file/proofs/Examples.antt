@@ -1,4 +1,5 @@
 -- Files of both forms, taken and refused: what read answers by the definitions. Assumes nothing.
+use Rattle.std.specs.Prelude.{Ok, Err}
 use mathlib.Core.Path.{◌≡◌, refl}
 use mathlib.Core.List.{List, [], ◌∷◌, ◌++◌, map}
 use Prim.Native.Nat.{ℕ}
@@ -22,17 +23,16 @@ use Rattle.packed_read.specs.Files.{in_bytes, body_of, read_packed}
 use Rattle.packed_read.specs.Read as read
 use Rattle.aiger_file.specs.declared.Cause.{Cause}
 use Rattle.aiger_file.specs.declared.Cause.TheVariants.{FaultyLine, FaultyRun, WaitingGates}
-use Rattle.aiger_file.specs.declared.ReadOutcome.TheVariants.{Numbers, Refused}
 use Rattle.aiger_file.specs.Read as file
 use Rattle.aiger_file.specs.Read.{read_end, read_of}
 
 -- a text is read as a netlist, into a buffer of just its length
 abbrev reads : List ℕ → List ℕ → Type 0
-reads text net = read_of text (map (λ _. 0) net) ≡ read_end (Numbers (length net)) net
+reads text net = read_of text (map (λ _. 0) net) ≡ read_end (Ok (length net)) net
 
 -- or refused
 abbrev refuses : List ℕ → Cause → Type 0
-refuses text cause = read_of text [] ≡ read_end (Refused cause) []
+refuses text cause = read_of text [] ≡ read_end (Err cause) []
 
 pub record Table : Type 0 where
   -- one netlist in both forms: a latch of reset 1 and a gate

@@ -1,24 +1,18 @@
 -- Read of an AIGER file in either form: the header's first word tells which. `aig` and a blank is the packed form;
 -- whatever else goes to the reader of the text form. Assumes nothing.
-use Rattle.std.specs.Prelude.{cond, List, ℕ}
+use Rattle.std.specs.Prelude.{Result, Ok, Err, cond, List, ℕ}
 use Rattle.text.specs.Quoted.{byte}
 use Rattle.text.specs.declared.Refusal.{Refusal}
 use Rattle.aiger_lines.specs.declared.Fault.TheVariants.{WrongShape, OutOfLimits}
 use Rattle.aiger_lines.specs.Heads.{has_tag}
 use Rattle.aiger_read.specs.declared.Cause.{Cause as TextCause}
 use Rattle.aiger_read.specs.declared.Cause.TheVariants as text
-use Rattle.aiger_read.specs.declared.ReadOutcome.{ReadOutcome as TextOutcome}
-use Rattle.aiger_read.specs.declared.ReadOutcome.TheVariants.{Numbers as TextNumbers, Refused as TextRefused}
 use Rattle.aiger_read.specs.Read.{ReadEnd as TextEnd, read_of as text_read_of}
 use Rattle.packed_read.specs.declared.Cause.{Cause as PackedCause}
 use Rattle.packed_read.specs.declared.Cause.TheVariants as packed
-use Rattle.packed_read.specs.declared.ReadOutcome.{ReadOutcome as PackedOutcome}
-use Rattle.packed_read.specs.declared.ReadOutcome.TheVariants.{Numbers as PackedNumbers, Refused as PackedRefused}
 use Rattle.packed_read.specs.Read.{ReadEnd as PackedEnd, read_of as packed_read_of}
 use Rattle.aiger_file.specs.declared.Cause.{Cause}
 use Rattle.aiger_file.specs.declared.Cause.TheVariants.{TextTooLong, ShortBuffer, FaultyLine, FaultyRun, WaitingGates}
-use Rattle.aiger_file.specs.declared.ReadOutcome.{ReadOutcome}
-use Rattle.aiger_file.specs.declared.ReadOutcome.TheVariants.{Numbers, Refused}
 
 -- the number and line of each cause
 unfoldable pub refusal_of : Cause → Refusal
@@ -44,20 +38,20 @@ packed_cause (packed.FaultyLine fault line) = FaultyLine fault line
 packed_cause (packed.FaultyRun fault) = FaultyRun fault
 
 -- and so are the answers
-unfoldable pub text_outcome : TextOutcome → ReadOutcome
-text_outcome (TextNumbers n) = Numbers n
-text_outcome (TextRefused cause) = Refused (text_cause cause)
+unfoldable pub text_outcome : Result ℕ TextCause → Result ℕ Cause
+text_outcome (Ok n) = Ok n
+text_outcome (Err cause) = Err (text_cause cause)
 
-unfoldable pub packed_outcome : PackedOutcome → ReadOutcome
-packed_outcome (PackedNumbers n) = Numbers n
-packed_outcome (PackedRefused cause) = Refused (packed_cause cause)
+unfoldable pub packed_outcome : Result ℕ PackedCause → Result ℕ Cause
+packed_outcome (Ok n) = Ok n
+packed_outcome (Err cause) = Err (packed_cause cause)
 
 -- what a read answers, and what it leaves
 pub record ReadEnd : Type 0 where
-  pub answer : ReadOutcome
+  pub answer : Result ℕ Cause
   pub net : List ℕ
 
-abbrev pub read_end : ReadOutcome → List ℕ → ReadEnd
+abbrev pub read_end : Result ℕ Cause → List ℕ → ReadEnd
 read_end r n = record { answer = r; net = n }
 
 unfoldable pub text_read_end : TextEnd → ReadEnd

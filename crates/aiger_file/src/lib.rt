@@ -5,7 +5,7 @@
 #![tactic(auto)]
 
 ghost use Rattle.std.specs.Prelude.{◌≡◌, ℕ, ◌<◌, get_or};
-ghost use Rattle.aiger_file.specs.Read.{refusal_of, text_cause, packed_cause, text_outcome, packed_outcome, read_end, read_of};
+ghost use Rattle.aiger_file.specs.Read.{refusal_of, text_cause, packed_cause, read_end, read_of};
 ghost use Rattle.aiger_file.specs.Claims.{ReadMeans};
 
 use aiger_lines::{Fault, has_tag};
@@ -37,15 +37,9 @@ impl Cause {
                 number: 12,
                 line: 0,
             },
-            Cause::FaultyLine(fault, line) => match fault {
-                Fault::WrongShape => Refusal {
-                    number: 13,
-                    line: line,
-                },
-                Fault::OutOfLimits => Refusal {
-                    number: 14,
-                    line: line,
-                },
+            Cause::FaultyLine(fault, line) => Refusal {
+                number: fault.number(),
+                line: line,
             },
             Cause::FaultyRun(fault) => match fault {
                 Fault::WrongShape => Refusal {
@@ -65,66 +59,44 @@ impl Cause {
     }
 }
 
-#[derive(Clone, Copy)]
-pub enum ReadOutcome {
-    // How many numbers the netlist has.
-    Numbers(usize),
-    Refused(Cause),
-}
-
 // A cause of the text form among those of either form.
-fn text_cause(cause: aiger_read::Cause) -> Cause
-    ensures { result ≡ text_cause cause }
-{
-    match cause {
-        aiger_read::Cause::TextTooLong => Cause::TextTooLong,
-        aiger_read::Cause::ShortBuffer => Cause::ShortBuffer,
-        aiger_read::Cause::FaultyLine(fault, line) => Cause::FaultyLine(fault, line),
-        aiger_read::Cause::WaitingGates => Cause::WaitingGates,
+impl From<aiger_read::Cause> for Cause {
+    ghost from_gives = { λ e c. c ≡ text_cause e };
+
+    fn from(cause: aiger_read::Cause) -> Cause {
+        match cause {
+            aiger_read::Cause::TextTooLong => Cause::TextTooLong,
+            aiger_read::Cause::ShortBuffer => Cause::ShortBuffer,
+            aiger_read::Cause::FaultyLine(fault, line) => Cause::FaultyLine(fault, line),
+            aiger_read::Cause::WaitingGates => Cause::WaitingGates,
+        }
     }
 }
 
 // And one of the packed form.
-fn packed_cause(cause: packed_read::Cause) -> Cause
-    ensures { result ≡ packed_cause cause }
-{
-    match cause {
-        packed_read::Cause::TextTooLong => Cause::TextTooLong,
-        packed_read::Cause::ShortBuffer => Cause::ShortBuffer,
-        packed_read::Cause::FaultyLine(fault, line) => Cause::FaultyLine(fault, line),
-        packed_read::Cause::FaultyRun(fault) => Cause::FaultyRun(fault),
+impl From<packed_read::Cause> for Cause {
+    ghost from_gives = { λ e c. c ≡ packed_cause e };
+
+    fn from(cause: packed_read::Cause) -> Cause {
+        match cause {
+            packed_read::Cause::TextTooLong => Cause::TextTooLong,
+            packed_read::Cause::ShortBuffer => Cause::ShortBuffer,
+            packed_read::Cause::FaultyLine(fault, line) => Cause::FaultyLine(fault, line),
+            packed_read::Cause::FaultyRun(fault) => Cause::FaultyRun(fault),
+        }
     }
 }
 
-// What the reader of the text form answers, as an answer of either form.
-fn text_outcome(outcome: aiger_read::ReadOutcome) -> ReadOutcome
-    ensures { result ≡ text_outcome outcome }
-{
-    match outcome {
-        aiger_read::ReadOutcome::Numbers(numbers) => ReadOutcome::Numbers(numbers),
-        aiger_read::ReadOutcome::Refused(cause) => ReadOutcome::Refused(text_cause(cause)),
-    }
-}
-
-// And that of the packed form.
-fn packed_outcome(outcome: packed_read::ReadOutcome) -> ReadOutcome
-    ensures { result ≡ packed_outcome outcome }
-{
-    match outcome {
-        packed_read::ReadOutcome::Numbers(numbers) => ReadOutcome::Numbers(numbers),
-        packed_read::ReadOutcome::Refused(cause) => ReadOutcome::Refused(packed_cause(cause)),
-    }
-}
-
-// Reads the netlist of a file to the front of a lent buffer; a refusal leaves the buffer as it was.
-pub fn read(text: &[u8], net: &mut [u16]) -> ReadOutcome
+// Reads the netlist of a file to the front of a lent buffer, and answers how many numbers it has. A refusal leaves the
+// buffer as it was.
+pub fn read(text: &[u8], net: &mut [u16]) -> Result<usize, Cause>
     ensures net_after { read_end result net.new ≡ read_of text.now net.old }
     ensures bytes { (k : ℕ) → get_or text.now k 0 < 256 }
     ensures exact { ReadMeans }
 {
     if has_tag(text, b'i') {
-        packed_outcome(packed_read::read(text, net))
+        Ok(packed_read::read(text, net)?)
     } else {
-        text_outcome(aiger_read::read(text, net))
+        Ok(aiger_read::read(text, net)?)
     }
 }

@@ -1,4 +1,5 @@
 -- A line's numbers are read just where the line's text stands. Assumes nothing.
+use Rattle.std.specs.Prelude.{Option, Some, None}
 use mathlib.Core.Path.{◌≡◌, refl, sym, ap, ◌∙◌}
 use mathlib.Core.Bool.{Bool, true, false, cond}
 use mathlib.Core.List.{List, [], ◌∷◌, ◌++◌, append_assoc}
@@ -9,8 +10,6 @@ use borrow.Author.Tests.{eq-eqb, ne_eqb, eqb-true}
 use lib.Dec.{eqb}
 use lib.ListN.{length, get_or, take, drop, take-append-drop, length-append}
 use lib.Seq.{drop-cons, drop-drop, get_or-drop, get_or-append_seam, length-take-le}
-use Rattle.text.specs.declared.Number.{Number}
-use Rattle.text.specs.declared.Number.TheVariants.{Read, None}
 use Rattle.text.specs.Numbers.{digits, is_digit, leading_digits, value_from, is_numeral, read_number}
 use Rattle.text.proofs.ReadBack.{reads-digits}
 use Rattle.aiger.specs.Rows.{line}
@@ -21,7 +20,7 @@ use Rattle.aiger_lines.proofs.PlaceLaws.{At, at_join, at_split}
 
 -- ---- a number and the byte after it
 
-none_read : {v q : ℕ} → None ≡ Read v q → ⊥
+none_read : {v q : ℕ} → ◌≡◌ {A = Option (ℕ × ℕ)} None (Some (v, q)) → ⊥
 none_read h = let z : ◌≡◌ {A = ℕ} 0 1 = cc in omega arith
 
 -- a number that was read stands there, and the byte after it is b
@@ -33,15 +32,15 @@ module _ (s : List ℕ) (p b : ℕ) (some : 1 ≤ b) where
   abbrev ds : List ℕ
   ds = leading_digits (drop p s)
 
-  value_of : Number → ℕ
-  value_of (Read v q) = v
+  value_of : Option (ℕ × ℕ) → ℕ
+  value_of (Some (v, q)) = v
   value_of None = 0
 
-  place_of : Number → ℕ
-  place_of (Read v q) = q
+  place_of : Option (ℕ × ℕ) → ℕ
+  place_of (Some (v, q)) = q
   place_of None = 0
 
-  after-digits : (v q : ℕ) (t : Bool) → is_numeral ds ≡ true → eqb (get_or s (p + length ds) 0) b ≡ t → cond t (Read (value_from 0 ds) (p + length ds + 1)) None ≡ Read v q → NumberAt s p b v q
+  after-digits : (v q : ℕ) (t : Bool) → is_numeral ds ≡ true → eqb (get_or s (p + length ds) 0) b ≡ t → cond {A = Option (ℕ × ℕ)} t (Some (value_from 0 ds, p + length ds + 1)) None ≡ Some (v, q) → NumberAt s p b v q
   unfolding value_of place_of
   after-digits v q false n e h = absurd (none_read h)
   after-digits v q true n e h =
@@ -63,12 +62,12 @@ module _ (s : List ℕ) (p b : ℕ) (some : 1 ≤ b) where
         small = omega (arith, num.1, ve);
       }
 
-  read_then : (v q : ℕ) (t : Bool) → is_numeral ds ≡ t → on_number (cond t (Read (value_from 0 ds) (p + length ds)) None) (λ w r. cond (eqb (get_or s r 0) b) (Read w (r + 1)) None) None ≡ Read v q → NumberAt s p b v q
+  read_then : (v q : ℕ) (t : Bool) → is_numeral ds ≡ t → on_number (cond {A = Option (ℕ × ℕ)} t (Some (value_from 0 ds, p + length ds)) None) (λ w r. cond {A = Option (ℕ × ℕ)} (eqb (get_or s r 0) b) (Some (w, r + 1)) None) None ≡ Some (v, q) → NumberAt s p b v q
   unfolding on_number
   read_then v q false n h = absurd (none_read h)
   read_then v q true n h = after-digits v q (eqb (get_or s (p + length ds) 0) b) n refl h
 
-  number_at : (v q : ℕ) → number_then s p b ≡ Read v q → NumberAt s p b v q
+  number_at : (v q : ℕ) → number_then s p b ≡ Some (v, q) → NumberAt s p b v q
   unfolding number_then read_number
   number_at v q h = read_then v q (is_numeral ds) refl h
 
@@ -77,7 +76,7 @@ module _ (s : List ℕ) (p b v q : ℕ) (stop : is_digit b ≡ false) (small : v
   rest : drop p s ≡ digits v ++ (b ∷ drop q s)
   rest = a.text ∙ append_assoc (digits v) (b ∷ []) (drop q s)
 
-  read_at : read_number s p ≡ Read v (p + length (digits v))
+  read_at : read_number s p ≡ Some (v, p + length (digits v))
   read_at =
       let l : length (take p s) ≡ p = length-take-le p s (omega (arith, a.place, a.inside)) in
       let whole : s ≡ take p s ++ (digits v ++ (b ∷ drop q s)) = sym (take-append-drop p s) ∙ ap (λ (x : List ℕ). take p s ++ x) rest in
@@ -90,7 +89,7 @@ module _ (s : List ℕ) (p b v q : ℕ) (stop : is_digit b ≡ false) (small : v
   after : q ≡ p + length (digits v) + 1
   after = a.place ∙ rw length-append (omega arith)
 
-  at-number : number_then s p b ≡ Read v q
+  at-number : number_then s p b ≡ Some (v, q)
   unfolding number_then on_number
   at-number = rw (read_at, eq-eqb (get_or s (p + length (digits v)) 0) b byte_at, after)
 
@@ -134,9 +133,9 @@ module _ (s : List ℕ) where
   abbrev Sound : ℕ → Type 0
   Sound n = (p : ℕ) (vs : List ℕ) (q : ℕ) → fields_of s n p ≡ fields vs q → Stands s p vs q
 
-  last_sound : (p : ℕ) (x : Number) → number_then s p 10 ≡ x → (vs : List ℕ) (q : ℕ) → on_number x (λ v r. fields (v ∷ []) r) wrong ≡ fields vs q → Stands s p vs q
+  last_sound : (p : ℕ) (x : Option (ℕ × ℕ)) → number_then s p 10 ≡ x → (vs : List ℕ) (q : ℕ) → on_number x (λ v r. fields (v ∷ []) r) wrong ≡ fields vs q → Stands s p vs q
   unfolding on_number
-  last_sound p (Read v r) e vs q h =
+  last_sound p (Some (v, r)) e vs q h =
       let n = number_at s p 10 (omega arith) v r e in
       let same : fields (v ∷ []) r ≡ fields vs q = h in
       let a : v ∷ [] ≡ vs = cc in
@@ -153,9 +152,9 @@ module _ (s : List ℕ) where
       let b : z ≡ q = cc in
       rw (← a, ← b) (stands-more p v r ws z n (ih ws z refl))
 
-  more_sound : (n p : ℕ) (x : Number) → number_then s p 32 ≡ x → Sound n → (vs : List ℕ) (q : ℕ) → on_number x (λ v r. before v (fields_of s n r)) wrong ≡ fields vs q → Stands s p vs q
+  more_sound : (n p : ℕ) (x : Option (ℕ × ℕ)) → number_then s p 32 ≡ x → Sound n → (vs : List ℕ) (q : ℕ) → on_number x (λ v r. before v (fields_of s n r)) wrong ≡ fields vs q → Stands s p vs q
   unfolding on_number
-  more_sound n p (Read v r) e ih vs q h = before_sound p v r (fields_of s n r) (number_at s p 32 (omega arith) v r e) (ih r) vs q h
+  more_sound n p (Some (v, r)) e ih vs q h = before_sound p v r (fields_of s n r) (number_at s p 32 (omega arith) v r e) (ih r) vs q h
   more_sound n p None e ih vs q h = absurd (wrong-fields h)
 
   -- SOUND: the numbers of a line that was read
@@ -171,7 +170,7 @@ module _ (s : List ℕ) where
   stand_fields (w ∷ vs) v p q m a =
       let parts = at_split (digits v ++ (32 ∷ [])) (line w vs) (rw (sym (append_assoc (digits v) (32 ∷ []) (line w vs))) at a) in
       let r = p + length (digits v ++ (32 ∷ [])) in
-      let h : number_then s p 32 ≡ Read v r = at-number s p 32 v r refl m.0 parts.0 in
+      let h : number_then s p 32 ≡ Some (v, r) = at-number s p 32 v r refl m.0 parts.0 in
       rw (h, stand_fields vs w r q m.1 parts.1)
 
   -- a line of one number more is no line of suc n numbers
@@ -185,5 +184,5 @@ module _ (s : List ℕ) where
       let more = line x (vs ++ (w ∷ [])) in
       let parts = at_split (digits v ++ (32 ∷ [])) more (rw (sym (append_assoc (digits v) (32 ∷ []) more)) at a) in
       let r = p + length (digits v ++ (32 ∷ [])) in
-      let h : number_then s p 32 ≡ Read v r = at-number s p 32 v r refl m.0 parts.0 in
+      let h : number_then s p 32 ≡ Some (v, r) = at-number s p 32 v r refl m.0 parts.0 in
       rw (h, not-fewer vs x w r q m.1 parts.1)

@@ -1,10 +1,11 @@
 -- The header, test by test, and that it is read just where its text stands. Assumes nothing.
+use Rattle.std.specs.Prelude.{Result, Ok, Option, Some, None}
 use mathlib.Core.Path.{◌≡◌, refl, sym, ap, ◌∙◌, subst}
-use mathlib.Core.Bool.{Bool, true, false, cond, not, ◌&&◌, true≢false}
+use mathlib.Core.Bool.{Bool, true, false, cond, ◌&&◌}
 use mathlib.Core.List.{List, [], ◌∷◌, ◌++◌}
 use Prim.Native.Nat.{ℕ, ◌≤◌, ◌<◌}
 use native.Mathlib.Omega.{arith}
-use borrow.Author.Tests.{not-true, not-false, eqb-true, eq-eqb}
+use borrow.Author.Tests.{eqb-true, eq-eqb}
 use lib.Dec.{eqb}
 use lib.ListN.{length, get_or, drop}
 use Rattle.netlist.specs.Valid.{header_ok}
@@ -15,12 +16,10 @@ use Rattle.aiger_lines.specs.declared.Fault.{Fault}
 use Rattle.aiger_lines.specs.declared.Fault.TheVariants.{WrongShape, OutOfLimits}
 use Rattle.aiger_lines.specs.declared.Line.{Line}
 use Rattle.aiger_lines.specs.declared.Head.{Head}
-use Rattle.aiger_lines.specs.declared.HeadRead.{HeadRead}
-use Rattle.aiger_lines.specs.declared.HeadRead.TheVariants.{Good}
 use Rattle.aiger_lines.specs.Fields.{Fields, wrong, fields, fields_of}
 use Rattle.aiger_lines.specs.Heads.{heading, misheaded, has_tag, headed, head_at}
-use Rattle.aiger_lines.specs.Private.Steps.{LineIs, head_in, Counted}
-use Rattle.aiger_lines.proofs.LineLaws.{byte_inside, fields-length}
+use Rattle.aiger_lines.specs.Private.Steps.{Holds, LineIs, head_in, Counted}
+use Rattle.aiger_lines.proofs.LineLaws.{byte_inside, none_line, held, fields-length}
 use Rattle.aiger_lines.proofs.PlaceLaws.{At, at_join, at_split}
 use Rattle.aiger_lines.proofs.FieldLaws.{line_of, Small, fields_stand, stand_fields}
 
@@ -31,36 +30,39 @@ module _ (second : ℕ) (s : List ℕ) where
   unfolding head_at
   head_untagged h = rw h
 
-  module _ (tag : has_tag second s ≡ true) (l : Line) (is : LineIs (fields_of s 4 4) l) where
-    headed-wrong : (x : Fields) → LineIs x l → not l.formed ≡ true → misheaded WrongShape ≡ headed x
+  module _ (tag : has_tag second s ≡ true) (o : Option Line) (is : LineIs (fields_of s 4 4) o) where
+    headed-wrong : (x : Fields) → LineIs x o → o ≡ None → misheaded WrongShape ≡ headed x
     unfolding LineIs headed
     headed-wrong wrong i h = refl
-    headed-wrong (fields vs q) i h = absurd (true≢false (sym i.formed ∙ not-true l.formed h))
+    headed-wrong (fields vs q) i h = absurd (none_line (sym h ∙ i.1))
 
-    pub head-wrong : not l.formed ≡ true → misheaded WrongShape ≡ head_at second s
+    pub head-wrong : o ≡ None → misheaded WrongShape ≡ head_at second s
     unfolding head_at
     head-wrong h = rw tag (headed-wrong (fields_of s 4 4) is h)
 
-    abbrev v : ℕ → ℕ
-    v k = get_or l.values k 0
+    module _ (l : Line) (h : o ≡ Some l) where
+      abbrev v : ℕ → ℕ
+      v k = get_or l.values k 0
 
-    headed-read : (x : Fields) → LineIs x l → not l.formed ≡ false
-        → headed x ≡ cond (header_ok (v 0) (v 1) (v 2) (v 3) (v 4)) (heading (v 0) (v 1) (v 2) (v 3) (v 4) l.next) (misheaded OutOfLimits)
-    unfolding LineIs headed
-    headed-read wrong i h = absurd (true≢false (sym (not-false l.formed h) ∙ ap (λ (x : Line). x.formed) i))
-    headed-read (fields vs q) i h = rw (i.values 0, i.values 1, i.values 2, i.values 3, i.values 4, i.next)
+      headed-read : (x : Fields) → LineIs x o
+          → headed x ≡ cond (header_ok (v 0) (v 1) (v 2) (v 3) (v 4)) (heading (v 0) (v 1) (v 2) (v 3) (v 4) l.next) (misheaded OutOfLimits)
+      unfolding LineIs headed
+      headed-read wrong i = absurd (none_line (sym i ∙ h))
+      headed-read (fields vs q) i =
+          let k : Holds l vs q = held i.0 l vs q i.2 (sym i.1 ∙ h) in
+          rw (k.values 0, k.values 1, k.values 2, k.values 3, k.values 4, k.next)
 
-    pub head_bad : not l.formed ≡ false → header_ok (v 0) (v 1) (v 2) (v 3) (v 4) ≡ false → misheaded OutOfLimits ≡ head_at second s
-    unfolding head_at
-    head_bad h e = rw tag (sym (headed-read (fields_of s 4 4) is h ∙ rw e))
+      pub head_bad : header_ok (v 0) (v 1) (v 2) (v 3) (v 4) ≡ false → misheaded OutOfLimits ≡ head_at second s
+      unfolding head_at
+      head_bad e = rw tag (sym (headed-read (fields_of s 4 4) is ∙ rw e))
 
-    pub head-limits : header_ok (v 0) (v 1) (v 2) (v 3) (v 4) ≡ true → Header (v 0) (v 1) (v 2) (v 3) (v 4)
-    head-limits e = header (v 0) (v 1) (v 2) (v 3) (v 4) e
+      pub head-limits : header_ok (v 0) (v 1) (v 2) (v 3) (v 4) ≡ true → Header (v 0) (v 1) (v 2) (v 3) (v 4)
+      head-limits e = header (v 0) (v 1) (v 2) (v 3) (v 4) e
 
-    pub head_good : not l.formed ≡ false → header_ok (v 0) (v 1) (v 2) (v 3) (v 4) ≡ true
-        → heading (v 0) (v 1) (v 2) (v 3) (v 4) l.next ≡ head_at second s
-    unfolding head_at
-    head_good h e = rw tag (sym (headed-read (fields_of s 4 4) is h ∙ rw e))
+      pub head_good : header_ok (v 0) (v 1) (v 2) (v 3) (v 4) ≡ true
+          → heading (v 0) (v 1) (v 2) (v 3) (v 4) l.next ≡ head_at second s
+      unfolding head_at
+      head_good e = rw tag (sym (headed-read (fields_of s 4 4) is ∙ rw e))
 
 -- ---- the header's text
 
@@ -168,7 +170,7 @@ module _ (second : ℕ) (s : List ℕ) where
           absurd (none (get_or vs 0 0) (get_or vs 1 0) (get_or vs 2 0) (get_or vs 3 0) (get_or vs 4 0) r (subst Small is w.small) (at_join (tag_at second s t) (subst (λ (l : List ℕ). At s 4 (line_of l) r) is w.at)))
 
   -- no count of a header that was read wraps
-  pub head-counted : (r : HeadRead) (h : Head) → head_in r ≡ head_at second s → r ≡ Good h → Counted h
+  pub head-counted : (r : Result Head Fault) (h : Head) → head_in r ≡ head_at second s → r ≡ Ok h → Counted h
   unfolding head_in
   head-counted r h is e =
       let w = head_at_lem h.variables h.inputs h.latches h.outputs h.gates h.next (sym is ∙ ap head_in e) in

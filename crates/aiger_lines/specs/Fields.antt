@@ -1,8 +1,6 @@
 -- The shape of an AIGER line at a place of a text: so many numbers, parted by single blanks, and an LF.
 -- Assumes nothing.
-use Rattle.std.specs.Prelude.{cond, List, [], ◌∷◌, ℕ, zero, suc, ◌+◌, eqb, get_or}
-use Rattle.text.specs.declared.Number.{Number}
-use Rattle.text.specs.declared.Number.TheVariants.{Read, None}
+use Rattle.std.specs.Prelude.{Option, Some, None, cond, List, [], ◌∷◌, ℕ, zero, suc, ◌+◌, eqb, get_or}
 use Rattle.text.specs.Numbers.{read_number}
 
 -- the numbers of a line and the place after its LF; or another shape
@@ -11,13 +9,13 @@ pub data Fields : Type 0 where
   fields : List ℕ → ℕ → Fields
 
 -- what is made of a number and the place after it
-unfoldable pub on_number : {A : Type 0} → Number → (ℕ → ℕ → A) → A → A
-on_number (Read v q) f d = f v q
+unfoldable pub on_number : {A : Type 0} → Option (ℕ × ℕ) → (ℕ → ℕ → A) → A → A
+on_number (Some (v, q)) f d = f v q
 on_number None f d = d
 
 -- a number at p and the byte b after it: the number and the place after that byte
-unfoldable pub number_then : List ℕ → ℕ → ℕ → Number
-number_then s p b = on_number (read_number s p) (λ v q. cond (eqb (get_or s q 0) b) (Read v (q + 1)) None) None
+unfoldable pub number_then : List ℕ → ℕ → ℕ → Option (ℕ × ℕ)
+number_then s p b = on_number (read_number s p) (λ v q. cond (eqb (get_or s q 0) b) (Some (v, q + 1)) None) None
 
 unfoldable pub before : ℕ → Fields → Fields
 before v wrong = wrong

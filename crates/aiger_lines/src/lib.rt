@@ -1,15 +1,20 @@
 // What both forms of an AIGER file share: the numbers of a line, the header, what a latch and an output
-// say, and how numbers are stored. Knows nothing of the lines of inputs, of gates or of what stands where in
-// a file. Its laws, for the readers above: lines are read just where their texts stand, and when the numbers
-// of lines are a netlist.
+// say, lines one after the other, whatever reads one of them, and how numbers are stored. Knows nothing of
+// the lines of inputs, of gates or of what stands where in a file. Its laws, for the readers above: lines are
+// read just where their texts stand, and when the numbers of lines are a netlist.
 #![tactic(auto)]
+
+ghost use Rattle.std.specs.Prelude.{◌≡◌};
+ghost use Rattle.aiger_lines.specs.Private.Steps.{number_of};
 
 use netlist::Literal;
 
+mod blocks;
 mod fields;
 mod lines;
 mod stores;
 
+pub use blocks::{block_at, literal_due};
 pub use fields::{has_tag, one_number, one_or_two, three_numbers, two_or_three};
 pub use lines::{header_at, latch_says, output_line};
 pub use stores::{store, store_given, store_head, store_pair};
@@ -23,10 +28,22 @@ pub enum Fault {
     OutOfLimits,
 }
 
-// The numbers of a line, 0 where there is none, and the place after its LF; or another shape.
+impl Fault {
+    // The number in which the fault of a line is reported.
+    #[tactic(auto, unfolding(crate::specs::Private::Steps::number_of))]
+    pub fn number(self) -> u8
+        ensures { result ≡ number_of self }
+    {
+        match self {
+            Fault::WrongShape => 13,
+            Fault::OutOfLimits => 14,
+        }
+    }
+}
+
+// The numbers of a line, 0 where there is none, and the place after its LF.
 #[derive(Drop)]
 pub struct Line {
-    pub formed: bool,
     pub values: [usize; 5],
     pub next: usize,
 }
@@ -47,13 +64,6 @@ pub struct Given {
     pub next: usize,
 }
 
-// A line that was read, or its fault.
-#[derive(Clone, Copy)]
-pub enum LineRead {
-    Good(Given),
-    Bad(Fault),
-}
-
 // The header's numbers, and the place after its line.
 #[derive(Clone, Copy)]
 pub struct Head {
@@ -65,24 +75,10 @@ pub struct Head {
     pub next: usize,
 }
 
-// A header that was read, or its fault.
-#[derive(Clone, Copy)]
-pub enum HeadRead {
-    Good(Head),
-    Bad(Fault),
-}
-
 // How far a pass is: the uninitialised latches so far, the place in the text, and that in the netlist.
 #[derive(Clone, Copy)]
 pub struct Cursor {
     pub free: usize,
     pub at: usize,
     pub place: usize,
-}
-
-// Lines that were read, or the first fault and its line.
-#[derive(Clone, Copy)]
-pub enum Passed {
-    Past(Cursor),
-    Failed(Fault, u32),
 }

@@ -6,7 +6,7 @@ ghost use Rattle.aiger_lines.specs.Heads.{head_at};
 ghost use Rattle.aiger_lines.specs.Private.Steps.{row_in, head_in};
 
 use crate::fields::{fields_at, has_tag, one_number};
-use crate::{Fault, Given, Head, HeadRead, LineRead, Literals};
+use crate::{Fault, Given, Head, Literals};
 use netlist::Literal;
 
 // The most variables, not counting variable 0.
@@ -30,26 +30,26 @@ pub fn latch_says(
     reset: usize,
     free: usize,
     after: usize,
-) -> LineRead
+) -> Result<Given, Fault>
     ensures { row_in result ≡ latch_says last.0 lit.0 free next reset after }
 {
     if next > last.0 as usize {
-        return LineRead::Bad(Fault::OutOfLimits);
+        return Err(Fault::OutOfLimits);
     }
     if reset <= 1 {
-        return LineRead::Good(Given {
+        return Ok(Given {
             literals: Literals::Two(Literal(next as u16), Literal(reset as u16)),
             free: free,
             next: after,
         });
     }
     if reset != lit.0 as usize {
-        return LineRead::Bad(Fault::OutOfLimits);
+        return Err(Fault::OutOfLimits);
     }
     if free >= MAX_FREE {
-        return LineRead::Bad(Fault::OutOfLimits);
+        return Err(Fault::OutOfLimits);
     }
-    LineRead::Good(Given {
+    Ok(Given {
         literals: Literals::Two(Literal(next as u16), lit),
         free: free + 1,
         next: after,
@@ -57,18 +57,15 @@ pub fn latch_says(
 }
 
 // An output is at most `last`.
-pub fn output_line(s: &[u8], last: Literal, free: usize, at: usize) -> LineRead
+pub fn output_line(s: &[u8], last: Literal, free: usize, at: usize) -> Result<Given, Fault>
     ensures { row_in result ≡ output_at s.now last.0 free at }
 {
-    let line = one_number(s, at);
-    if !line.formed {
-        return LineRead::Bad(Fault::WrongShape);
-    }
+    let line = one_number(s, at).ok_or(Fault::WrongShape)?;
     let values = line.values;
     if values[0] > last.0 as usize {
-        return LineRead::Bad(Fault::OutOfLimits);
+        return Err(Fault::OutOfLimits);
     }
-    LineRead::Good(Given {
+    Ok(Given {
         literals: Literals::One(Literal(values[0] as u16)),
         free: free,
         next: line.next,
@@ -104,21 +101,18 @@ fn header_fits(m: usize, i: usize, l: usize, o: usize, a: usize) -> bool
 }
 
 // The header, whose tag has the second byte given.
-pub fn header_at(s: &[u8], second: u8) -> HeadRead
+pub fn header_at(s: &[u8], second: u8) -> Result<Head, Fault>
     ensures { head_in result ≡ head_at second s.now }
 {
     if !has_tag(s, second) {
-        return HeadRead::Bad(Fault::WrongShape);
+        return Err(Fault::WrongShape);
     }
-    let line = fields_at(s, 4, 4);
-    if !line.formed {
-        return HeadRead::Bad(Fault::WrongShape);
-    }
+    let line = fields_at(s, 4, 4).ok_or(Fault::WrongShape)?;
     let values = line.values;
     if !header_fits(values[0], values[1], values[2], values[3], values[4]) {
-        return HeadRead::Bad(Fault::OutOfLimits);
+        return Err(Fault::OutOfLimits);
     }
-    HeadRead::Good(Head {
+    Ok(Head {
         variables: values[0] as u16,
         inputs: values[1] as u16,
         latches: values[2] as u16,

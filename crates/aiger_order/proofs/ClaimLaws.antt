@@ -1,5 +1,6 @@
 -- THE CLAIM: of loose numbers the one netlist is stored where there is room for it, unless gates wait on each other.
 -- Assumes nothing.
+use Rattle.std.specs.Prelude.{Ok, Err}
 use mathlib.Core.Path.{◌≡◌, refl, sym, ap, ◌∙◌}
 use mathlib.Core.Bool.{Bool, true, false, cond}
 use mathlib.Core.List.{List, ◌++◌}
@@ -22,7 +23,7 @@ use Rattle.gate_order.proofs.LooseLaws.{Within, loose_outline, loose-within, loo
 use Rattle.gate_order.proofs.OrderLaws.{placing_order, placing_stuck, order_placing, not-both, BothLower, rank_free, order-ranks}
 use Rattle.gate_order.proofs.MeaningLaws.{placed-lowest, placed-netlist, placed-meaning}
 use Rattle.gate_order.proofs.RenumberedLaws.{literal_odd, renumbered-placed, placed-renumbered, one_placed, netlist-placed}
-use Rattle.aiger_order.specs.declared.Placing.TheVariants.{Placed, Waiting, ShortBuffer, NotLoose}
+use Rattle.aiger_order.specs.declared.Unplaced.TheVariants.{Waiting, ShortBuffer, NotLoose}
 use Rattle.aiger_order.specs.Place.{place_end, place_as, place_of}
 use Rattle.aiger_order.specs.Claims.{OperandsWithin, Ranked, Renamed, RenamedGate, PlaceMeans}
 
@@ -48,19 +49,19 @@ module _ (loose : List ℕ) where
 
 -- ---- the ends
 
-other : (loose buf : List ℕ) → is_loose loose ≡ false → place_of loose buf ≡ place_end NotLoose buf
+other : (loose buf : List ℕ) → is_loose loose ≡ false → place_of loose buf ≡ place_end (Err NotLoose) buf
 unfolding place_of
 other loose buf e = rw e
 
 module _ (loose : List ℕ) (is : is_loose loose ≡ true) where
   module _ (net buf : List ℕ) (p : PlacedAs loose net) where
-    takes : length net ≤ length buf → place_of loose buf ≡ place_end (Placed (length net)) (net ++ drop (length net) buf)
+    takes : length net ≤ length buf → place_of loose buf ≡ place_end (Ok (length net)) (net ++ drop (length net) buf)
     unfolding place_of place_as
     takes h =
         let s = p.size in
         rw (is, order_placing loose p.order p.ordered, le-leb (size_of loose) (length buf) (omega arith), s, ← (placed-renumbered loose net p))
 
-    short : length buf < length net → place_of loose buf ≡ place_end ShortBuffer buf
+    short : length buf < length net → place_of loose buf ≡ place_end (Err ShortBuffer) buf
     unfolding place_of place_as
     short h =
         let s = p.size in
@@ -74,9 +75,9 @@ module _ (loose : List ℕ) (is : is_loose loose ≡ true) where
       go (ordered order) e = f order e
       go (waiting order) e = g order e
 
-  waits : (buf : List ℕ) → Stuck loose → place_of loose buf ≡ place_end Waiting buf
+  waits : (buf : List ℕ) → Stuck loose → place_of loose buf ≡ place_end (Err Waiting) buf
   unfolding place_of place_as
-  waits buf s = either (place_of loose buf ≡ place_end Waiting buf) (λ order e. absurd (not-both loose order (placing_order loose order e) s)) (λ order e. rw (is, e))
+  waits buf s = either (place_of loose buf ≡ place_end (Err Waiting) buf) (λ order e. absurd (not-both loose order (placing_order loose order e) s)) (λ order e. rw (is, e))
 
   placed : (Stuck loose → ⊥) → (net : List ℕ) × PlacedAs loose net
   placed free =

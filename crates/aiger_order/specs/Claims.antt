@@ -1,13 +1,13 @@
 -- What the contract of place claims of gates that come in no order. Assumes nothing.
-use Rattle.std.specs.Prelude.{◌≡◌, true, false, List, ◌++◌, ◌⊎◌, ℕ, ◌+◌, ◌*◌, ◌/◌, ◌%◌, ◌<◌, ◌≤◌, length, get_or, take, drop}
+use Rattle.std.specs.Prelude.{Result, Ok, Err, ◌≡◌, true, false, List, ◌++◌, ◌⊎◌, ℕ, ◌+◌, ◌*◌, ◌/◌, ◌%◌, ◌<◌, ◌≤◌, length, get_or, take, drop}
 use Rattle.netlist.specs.Layout.{size_of}
 use Rattle.netlist.specs.Valid.{is_netlist}
 use Rattle.netlist.specs.Aiger.{Outlined}
 use Rattle.gate_order.specs.Loose.{is_loose}
 use Rattle.gate_order.specs.Order.{PlacedAs, Stuck}
 use Rattle.gate_order.specs.Meaning.{SameMeaning}
-use Rattle.aiger_order.specs.declared.Placing.{Placing}
-use Rattle.aiger_order.specs.declared.Placing.TheVariants.{Placed, Waiting, ShortBuffer, NotLoose}
+use Rattle.aiger_order.specs.declared.Unplaced.{Unplaced}
+use Rattle.aiger_order.specs.declared.Unplaced.TheVariants.{Waiting, ShortBuffer, NotLoose}
 use Rattle.aiger_order.specs.Place.{place_end, place_of}
 
 -- each operand of each gate is at most 2M + 1
@@ -36,20 +36,20 @@ RenamedGate loose order net m x =
 -- THE CLAIM, of any numbers and any buffer lent
 pub record PlaceMeans : Type 0 where
   -- an end has the answer and the numbers given
-  pub ends : (r : Placing) (n : List ℕ) → ((place_end r n).answer ≡ r) × ((place_end r n).net ≡ n)
+  pub ends : (r : Result ℕ Unplaced) (n : List ℕ) → ((place_end r n).answer ≡ r) × ((place_end r n).net ≡ n)
   -- numbers are loose where those of header, latches and outputs are within the limits, and each operand is
   pub loose : (loose : List ℕ) → Outlined loose → OperandsWithin loose → is_loose loose ≡ true
   pub within : (loose : List ℕ) → is_loose loose ≡ true → Outlined loose × OperandsWithin loose
   -- other numbers are refused as such, the buffer as it was
-  pub other : (loose buf : List ℕ) → is_loose loose ≡ false → place_of loose buf ≡ place_end NotLoose buf
+  pub other : (loose buf : List ℕ) → is_loose loose ≡ false → place_of loose buf ≡ place_end (Err NotLoose) buf
   -- the netlist is stored where the buffer has room for it: its numbers stand first, the surplus stays
   pub takes : (loose net buf : List ℕ) → is_loose loose ≡ true → PlacedAs loose net → length net ≤ length buf
-      → place_of loose buf ≡ place_end (Placed (length net)) (net ++ drop (length net) buf)
+      → place_of loose buf ≡ place_end (Ok (length net)) (net ++ drop (length net) buf)
   -- and refused as such where it has none
   pub short : (loose net buf : List ℕ) → is_loose loose ≡ true → PlacedAs loose net → length buf < length net
-      → place_of loose buf ≡ place_end ShortBuffer buf
+      → place_of loose buf ≡ place_end (Err ShortBuffer) buf
   -- gates that wait on each other are refused as such, whatever the buffer
-  pub waits : (loose buf : List ℕ) → is_loose loose ≡ true → Stuck loose → place_of loose buf ≡ place_end Waiting buf
+  pub waits : (loose buf : List ℕ) → is_loose loose ≡ true → Stuck loose → place_of loose buf ≡ place_end (Err Waiting) buf
   -- one of the two holds of all loose numbers, and never both
   pub placed : (loose : List ℕ) → is_loose loose ≡ true → (Stuck loose → ⊥) → (net : List ℕ) × PlacedAs loose net
   pub never : (loose net : List ℕ) → PlacedAs loose net → Stuck loose → ⊥

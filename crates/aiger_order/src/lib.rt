@@ -16,11 +16,9 @@ mod limits;
 mod orders;
 mod stores;
 
-// What place answers.
+// Why numbers are not placed.
 #[derive(Clone, Copy)]
-pub enum Placing {
-    // How many numbers the netlist has.
-    Placed(usize),
+pub enum Unplaced {
     // Gates wait on each other.
     Waiting,
     // The buffer is shorter than the netlist.
@@ -35,9 +33,6 @@ const VARIABLES: usize = 4096;
 // Stands for the new variable of a gate that has no place yet. No netlist has it.
 const UNPLACED: u16 = 65535;
 
-// How many numbers stand before the latches.
-const HEADER: usize = 5;
-
 // The gates of loose numbers: the variable of the first, how many they are, and where their operands stand.
 #[derive(Clone, Copy)]
 struct Gates {
@@ -47,18 +42,19 @@ struct Gates {
 }
 
 // Places the gates of loose numbers in their order, at each place the lowest gate whose operands are placed, and
-// stores the netlist so numbered to the front of a lent buffer. A refusal leaves the buffer as it was.
-pub fn place(loose: &[u16], net: &mut [u16]) -> Placing
+// stores the netlist so numbered to the front of a lent buffer. Answers how many numbers it has; a refusal leaves the
+// buffer as it was.
+pub fn place(loose: &[u16], net: &mut [u16]) -> Result<usize, Unplaced>
     ensures net_after { place_end result net.new ≡ place_of loose.now net.old }
     ensures exact { PlaceMeans }
 {
     if !is_loose(loose) {
-        return Placing::NotLoose;
+        return Err(Unplaced::NotLoose);
     }
     let mut news = [UNPLACED; VARIABLES];
     let mut order = [0u16; VARIABLES];
     if !find_order(loose, &mut news, &mut order) {
-        return Placing::Waiting;
+        return Err(Unplaced::Waiting);
     }
     store_netlist(loose, &news, &order, net)
 }

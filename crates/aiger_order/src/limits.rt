@@ -7,8 +7,8 @@ ghost use Rattle.netlist.specs.Valid.{is_outline};
 ghost use Rattle.gate_order.specs.Loose.{operands_ok, is_loose};
 ghost use Rattle.aiger_order.specs.Private.Steps.{GatesOf};
 
-use crate::{Gates, HEADER};
-use netlist::{Literal, Variable};
+use crate::Gates;
+use netlist::{Header, Literal, Variable};
 
 // Whether the operands, which stand from `at` on, are at most `last`, the largest literal.
 fn operands_ok(loose: &[u16], at: usize, count: u16, last: Literal) -> bool
@@ -33,11 +33,11 @@ pub(crate) fn gates_of(loose: &[u16]) -> Gates
     requires { is_outline loose.now ≡ true }
     ensures { GatesOf loose.now result }
 {
-    let latches = loose[2];
+    let header = Header::of(loose);
     Gates {
-        first: Variable(loose[1] + latches + 1),
-        count: loose[4],
-        at: HEADER + 2 * (latches as usize) + loose[3] as usize,
+        first: Variable(header.inputs + header.latches + 1),
+        count: header.gates,
+        at: header.operands_at(),
     }
 }
 
@@ -49,6 +49,6 @@ pub(crate) fn is_loose(loose: &[u16]) -> bool
         return false;
     }
     let gates = gates_of(loose);
-    let last = Variable(loose[0]).literal(true);
+    let last = Variable(Header::of(loose).maximum).literal(true);
     operands_ok(loose, gates.at, gates.count, last)
 }

@@ -1,9 +1,9 @@
 // The order of the gates. `news` has the new variable of each old one, or UNPLACED.
-ghost use Rattle.std.specs.Prelude.{◌≡◌, true, ◌+◌, ◌-◌, ◌<◌, ◌≤◌, length, replicate};
+ghost use Rattle.std.specs.Prelude.{◌≡◌, true, ◌+◌, ◌-◌, ◌<◌, ◌≤◌, length, replicate, IfSome};
 ghost use Rattle.netlist.specs.Literals.{variable_of};
 ghost use Rattle.gate_order.specs.Loose.{is_loose};
 ghost use Rattle.gate_order.specs.Placing.{lowest};
-ghost use Rattle.aiger_order.specs.Private.Steps.{GatesOf, placed_in, ready_in, Starts, Passed, Found};
+ghost use Rattle.aiger_order.specs.Private.Steps.{GatesOf, placed_in, ready_in, Starts, Passed, or_end, Found};
 
 use crate::limits::gates_of;
 use crate::{Gates, UNPLACED};
@@ -41,19 +41,20 @@ fn is_ready(loose: &[u16], news: &[u16], gates: Gates, own: Variable) -> bool
     has_place(news, Literal(loose[at + 1]))
 }
 
-// The lowest gate from `low` on that can take the next place, or the variable after the last gate's.
-fn choose(loose: &[u16], news: &[u16], gates: Gates, low: Variable) -> Variable
+// The lowest gate from `low` on that can take the next place.
+fn choose(loose: &[u16], news: &[u16], gates: Gates, low: Variable) -> Option<Variable>
     requires loose_value { (is_loose loose.now ≡ true) × GatesOf loose.now gates × (length news.now ≡ 4096) }
     requires first_le_low { (gates.first.0 ≤ low.0) × (low.0 ≤ gates.first.0 + gates.count) }
-    ensures { result.0 ≡ lowest (ready_in loose.now news.now) low.0 (gates.first.0 + gates.count - low.0) }
+    ensures value { or_end (gates.first.0 + gates.count) result ≡ lowest (ready_in loose.now news.now) low.0 (gates.first.0 + gates.count - low.0) }
+    ensures below { IfSome result (λ var. var.0 < gates.first.0 + gates.count) }
 {
     let end = gates.first.0 + gates.count;
     for x in low.0..end {
         if is_ready(loose, news, gates, Variable(x)) {
-            return Variable(x);
+            return Some(Variable(x));
         }
     }
-    Variable(end)
+    None
 }
 
 // The lowest variable from `low` on that is not placed, or `end` where all below it are.
@@ -89,10 +90,9 @@ fn place_gates(loose: &[u16], gates: Gates, news: &mut [u16], order: &mut [u16])
     let mut low = gates.first;
     for n in 0..gates.count {
         low = pass_placed(news, low, end);
-        let chosen = choose(loose, news, gates, low);
-        if chosen.0 == end.0 {
+        let Some(chosen) = choose(loose, news, gates, low) else {
             return false;
-        }
+        };
         order[n as usize] = chosen.0;
         news[chosen.0 as usize] = gates.first.0 + n;
     }

@@ -11,9 +11,9 @@ ghost use Rattle.aiger_order.specs.Place.{place_end, place_as};
 ghost use Rattle.aiger_order.specs.Private.Steps.{GatesOf, Ordered, Numbered, literal_in, header_in, latch_in, output_in, gate_in, gate_at};
 
 use crate::limits::gates_of;
-use crate::{Gates, HEADER, Placing};
+use crate::{Gates, Unplaced};
 use aiger_lines::{store, store_pair};
-use netlist::{Literal, Variable};
+use netlist::{HEADER, Header, Literal, Variable};
 
 // The new literal of an old one.
 fn new_literal(news: &[u16], lit: Literal) -> Literal
@@ -40,7 +40,7 @@ fn store_latches(loose: &[u16], news: &[u16], net: &mut [u16])
     requires { (is_loose loose.now ≡ true) × Numbered loose.now news.now }
     ensures { net.new ≡ sets net.old 5 (joined (latch_in loose.now news.now) (latch_count loose.now)) }
 {
-    let count = loose[2];
+    let count = Header::of(loose).latches;
     for k in 0..count {
         let at = HEADER + 2 * (k as usize);
         let next = new_literal(news, Literal(loose[at]));
@@ -53,8 +53,9 @@ fn store_outputs(loose: &[u16], news: &[u16], net: &mut [u16])
     requires { (is_loose loose.now ≡ true) × Numbered loose.now news.now }
     ensures { net.new ≡ sets net.old (output_at loose.now 0) (joined (output_in loose.now news.now) (output_count loose.now)) }
 {
-    let at = HEADER + 2 * (loose[2] as usize);
-    let count = loose[3];
+    let header = Header::of(loose);
+    let at = header.output_at();
+    let count = header.outputs;
     for k in 0..count {
         let place = at + k as usize;
         let lit = new_literal(news, Literal(loose[place]));
@@ -106,17 +107,22 @@ fn store_front(loose: &[u16], news: &[u16], net: &mut [u16])
 }
 
 // The netlist, where the buffer has room for it.
-pub(crate) fn store_netlist(loose: &[u16], news: &[u16], order: &[u16], net: &mut [u16]) -> Placing
+pub(crate) fn store_netlist(
+    loose: &[u16],
+    news: &[u16],
+    order: &[u16],
+    net: &mut [u16],
+) -> Result<usize, Unplaced>
     requires { (is_loose loose.now ≡ true) × Ordered loose.now news.now order.now }
     ensures { place_end result net.new ≡ place_as (ordered (take (gate_count loose.now) order.now)) loose.now net.old }
 {
     let gates = gates_of(loose);
     let size = gates.at + 2 * (gates.count as usize);
     if net.len() < size {
-        return Placing::ShortBuffer;
+        return Err(Unplaced::ShortBuffer);
     }
     store_front(loose, news, net);
     store_outputs(loose, news, net);
     store_gates(loose, news, order, gates, net);
-    Placing::Placed(size)
+    Ok(size)
 }

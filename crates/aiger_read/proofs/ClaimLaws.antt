@@ -1,6 +1,7 @@
 -- THE CLAIM: read takes exactly the files, their gates in whatever order, and gives the netlists that mean what they
 -- mean; gates that wait on each other are told as such, and a faulty header, input, latch, output or gate and what
 -- stands behind the last line at their own lines. Assumes nothing.
+use Rattle.std.specs.Prelude.{Result, Ok, Err}
 use mathlib.Core.Path.{◌≡◌, refl, sym, ap, ap₂, ◌∙◌, subst}
 use mathlib.Core.Bool.{Bool, true, false, cond, not, and-false}
 use mathlib.Core.List.{List, [], ◌∷◌, ◌++◌, append_assoc}
@@ -41,8 +42,6 @@ use Rattle.aiger_lines.proofs.FieldLaws.{Small}
 use Rattle.aiger_lines.proofs.TextLaws.{output-above, output-wrong}
 use Rattle.aiger_read.specs.declared.Cause.{Cause}
 use Rattle.aiger_read.specs.declared.Cause.TheVariants.{TextTooLong, ShortBuffer, FaultyLine, WaitingGates}
-use Rattle.aiger_read.specs.declared.ReadOutcome.{ReadOutcome}
-use Rattle.aiger_read.specs.declared.ReadOutcome.TheVariants.{Numbers, Refused}
 use Rattle.aiger_read.specs.Files.{file_read}
 use Rattle.aiger_read.specs.Read.{refusal_of, ReadEnd, read_end, max_text, placed_end, read_as, read_of}
 use Rattle.aiger_read.specs.Claims.{to_input, to_latch, file_to, gate_lines, file_by, IsFile, line_of_output, line_of_gate, StartsWithHeader, StartsWithNumber, StartsWithTwo, StartsWithThree, NoLatch, Defines, Refuses, ReadMeans}
@@ -82,7 +81,7 @@ module _ (text loose : List ℕ) (f : IsFile text loose) (buf : List ℕ) where
     same_length : length loose ≡ length net
     same_length = f.exact ∙ sym p.size
 
-    takes : length net ≤ length buf → read_of text buf ≡ read_end (Numbers (length net)) (net ++ drop (length net) buf)
+    takes : length net ≤ length buf → read_of text buf ≡ read_end (Ok (length net)) (net ++ drop (length net) buf)
     unfolding placed_end
     takes h =
         file_end
@@ -109,18 +108,18 @@ waits : (text loose buf : List ℕ) → IsFile text loose → Stuck loose → Re
 unfolding placed_end
 waits text loose buf f w = file_end text loose f buf ∙ go (placing_of loose) refl
   where
-    go : (x : Placing) → placing_of loose ≡ x → placed_end x loose buf ≡ read_end (Refused WaitingGates) buf
+    go : (x : Placing) → placing_of loose ≡ x → placed_end x loose buf ≡ read_end (Err WaitingGates) buf
     go (ordered order) e = absurd (not-both loose order (placing_order loose order e) w)
     go (waiting order) e = refl
 
 -- ---- nothing else is
 
 module _ (text buf : List ℕ) where
-  answers : {a b : ReadOutcome} {before after : List ℕ} → read_end a before ≡ read_end b after → a ≡ b
+  answers : {a b : Result ℕ Cause} {before after : List ℕ} → read_end a before ≡ read_end b after → a ≡ b
   answers h = ap (λ (e : ReadEnd). e.answer) h
 
   -- of a text that is not refused for its length or a faulty line, the numbers are placed
-  ended : (r : ReadOutcome) (after : List ℕ) (R : Type 0) → ((c : Cause) → r ≡ Refused c → c ≡ WaitingGates) → read_of text buf ≡ read_end r after
+  ended : (r : Result ℕ Cause) (after : List ℕ) (R : Type 0) → ((c : Cause) → r ≡ Err c → c ≡ WaitingGates) → read_of text buf ≡ read_end r after
       → ((loose : List ℕ) → IsFile text loose → placed_end (placing_of loose) loose buf ≡ read_end r after → R) → R
   unfolding read_of read_as
   ended r after R waits h k = go (leb (length text) max_text) h
@@ -129,20 +128,20 @@ module _ (text buf : List ℕ) where
       for_rows (rows ns free q) e g = k ns (sound text ns free q e) g
       for_rows (failed fault line) e g = absurd (let z = waits (FaultyLine fault line) (sym (answers g)) in let y : ◌≡◌ {A = ℕ} 0 1 = cc in omega arith)
 
-      go : (t : Bool) → cond (not t) (read_end (Refused TextTooLong) buf) (read_as (file_read text) buf) ≡ read_end r after → R
+      go : (t : Bool) → cond (not t) (read_end (Err TextTooLong) buf) (read_as (file_read text) buf) ≡ read_end r after → R
       go true g = for_rows (file_read text) refl g
       go false g = absurd (let z = waits TextTooLong (sym (answers g)) in let y : ◌≡◌ {A = ℕ} 0 1 = cc in omega arith)
 
-  refused-numbers : {c : Cause} {n : ℕ} → Numbers n ≡ Refused c → ⊥
+  refused-numbers : {c : Cause} {n : ℕ} → Ok n ≡ Err c → ⊥
   refused-numbers h = let z : ◌≡◌ {A = ℕ} 0 1 = cc in omega arith
 
-  only : (n : ℕ) (after : List ℕ) → read_of text buf ≡ read_end (Numbers n) after
+  only : (n : ℕ) (after : List ℕ) → read_of text buf ≡ read_end (Ok n) after
       → (loose net : List ℕ) × IsFile text loose × PlacedAs loose net × (n ≡ length net) × (after ≡ net ++ drop n buf)
   unfolding placed_end
-  only n after h = ended (Numbers n) after _ (λ c e. absurd (refused-numbers e)) h (λ loose f g. by loose f (placing_of loose) refl g)
+  only n after h = ended (Ok n) after _ (λ c e. absurd (refused-numbers e)) h (λ loose f g. by loose f (placing_of loose) refl g)
     where
       room : (loose order : List ℕ) (t : Bool) → IsFile text loose → PlacedAs loose (renumbered loose order)
-          → cond (not t) (read_end (Refused ShortBuffer) buf) (read_end (Numbers (length loose)) (renumbered loose order ++ drop (length loose) buf)) ≡ read_end (Numbers n) after
+          → cond (not t) (read_end (Err ShortBuffer) buf) (read_end (Ok (length loose)) (renumbered loose order ++ drop (length loose) buf)) ≡ read_end (Ok n) after
           → (loose net : List ℕ) × IsFile text loose × PlacedAs loose net × (n ≡ length net) × (after ≡ net ++ drop n buf)
       room loose order true f p g =
           let a = answers g in
@@ -150,26 +149,26 @@ module _ (text buf : List ℕ) where
           (loose, renumbered loose order, f, p, e ∙ f.exact ∙ sym (length-renumbered loose order), rw e (sym (ap (λ (x : ReadEnd). x.net) g)))
       room loose order false f p g = absurd (refused-numbers (sym (answers g)))
 
-      by : (loose : List ℕ) → IsFile text loose → (x : Placing) → placing_of loose ≡ x → placed_end x loose buf ≡ read_end (Numbers n) after
+      by : (loose : List ℕ) → IsFile text loose → (x : Placing) → placing_of loose ≡ x → placed_end x loose buf ≡ read_end (Ok n) after
           → (loose net : List ℕ) × IsFile text loose × PlacedAs loose net × (n ≡ length net) × (after ≡ net ++ drop n buf)
       by loose f (ordered order) e g = room loose order (leb (length loose) (length buf)) f (placed loose f.numbers order e) g
       by loose f (waiting order) e g = absurd (refused-numbers (sym (answers g)))
 
-  stuck : (after : List ℕ) → read_of text buf ≡ read_end (Refused WaitingGates) after → (loose : List ℕ) × IsFile text loose × Stuck loose
+  stuck : (after : List ℕ) → read_of text buf ≡ read_end (Err WaitingGates) after → (loose : List ℕ) × IsFile text loose × Stuck loose
   unfolding placed_end
-  stuck after h = ended (Refused WaitingGates) after _ (λ c e. cc) h (λ loose f g. by loose f (placing_of loose) refl g)
+  stuck after h = ended (Err WaitingGates) after _ (λ c e. cc) h (λ loose f g. by loose f (placing_of loose) refl g)
     where
-      room : (loose order : List ℕ) (t : Bool) → cond (not t) (read_end (Refused ShortBuffer) buf) (read_end (Numbers (length loose)) (renumbered loose order ++ drop (length loose) buf)) ≡ read_end (Refused WaitingGates) after → ⊥
+      room : (loose order : List ℕ) (t : Bool) → cond (not t) (read_end (Err ShortBuffer) buf) (read_end (Ok (length loose)) (renumbered loose order ++ drop (length loose) buf)) ≡ read_end (Err WaitingGates) after → ⊥
       room loose order true g = refused-numbers (answers g)
       room loose order false g = let a = answers g in let z : ◌≡◌ {A = ℕ} 0 1 = cc in omega arith
 
-      by : (loose : List ℕ) → IsFile text loose → (x : Placing) → placing_of loose ≡ x → placed_end x loose buf ≡ read_end (Refused WaitingGates) after
+      by : (loose : List ℕ) → IsFile text loose → (x : Placing) → placing_of loose ≡ x → placed_end x loose buf ≡ read_end (Err WaitingGates) after
           → (loose : List ℕ) × IsFile text loose × Stuck loose
       by loose f (ordered order) e g = absurd (room loose order (leb (length loose) (length buf)) g)
       by loose f (waiting order) e g = (loose, f, placing_stuck loose order f.numbers e)
 
   module _ (small : length text ≤ 65536) (no : (loose : List ℕ) → IsFile text loose → ⊥) where
-    other_as : (x : Rows) → file_read text ≡ x → (fault : Fault) × (line : ℕ) × (read_as x buf ≡ read_end (Refused (FaultyLine fault line)) buf)
+    other_as : (x : Rows) → file_read text ≡ x → (fault : Fault) × (line : ℕ) × (read_as x buf ≡ read_end (Err (FaultyLine fault line)) buf)
     unfolding read_as
     other_as (rows ns free q) e = absurd (no ns (sound text ns free q e))
     other_as (failed fault line) e = (fault, line, refl)
@@ -401,7 +400,7 @@ trip net h =
     rw (← (trimmed_file net (λ _. false)))
     (with_file (take (size_of net) net) (trimmed_netlist net h) (trimmed_length net h ∙ sym (trimmed_size net)) (λ _. false))
 
-back : (net buf : List ℕ) → is_netlist net ≡ true → size_of net ≤ length buf → read_of (file_of net) buf ≡ read_end (Numbers (size_of net)) (take (size_of net) net ++ drop (size_of net) buf)
+back : (net buf : List ℕ) → is_netlist net ≡ true → size_of net ≤ length buf → read_of (file_of net) buf ≡ read_end (Ok (size_of net)) (take (size_of net) net ++ drop (size_of net) buf)
 back net buf h l =
     let e = trimmed_length net h in
     rw e at (takes (file_of net) (take (size_of net) net) (trip net h) buf (take (size_of net) net) (own-placed (take (size_of net) net) (trimmed_netlist net h) (e ∙ sym (trimmed_size net)) (λ _. false)) (rw e l))

@@ -1,5 +1,6 @@
 -- Files of the AIGER distribution, graph G's with one output and with two, one with latches, files whose gates come in
 -- no order, and faulty ones: what read answers by the definitions, and what the netlists taken mean. Assumes nothing.
+use Rattle.std.specs.Prelude.{Ok, Err}
 use mathlib.Core.Path.{◌≡◌, refl}
 use mathlib.Core.Bool.{Bool, not, ◌&&◌}
 use mathlib.Core.List.{List, [], ◌∷◌, ◌++◌, map}
@@ -19,26 +20,25 @@ use Rattle.aiger_lines.specs.Lines.{judged, latch_says, output_at}
 use Rattle.aiger_lines.specs.Blocks.{behind, and_then, on_row, rows_of, end_of}
 use Rattle.aiger_lines.specs.Heads.{has_tag, headed, head_at, on_head}
 use Rattle.aiger_read.specs.declared.Cause.TheVariants.{FaultyLine, WaitingGates}
-use Rattle.aiger_read.specs.declared.ReadOutcome.TheVariants.{Numbers, Refused}
 use Rattle.aiger_read.specs.Lines.{input_at, latch_at, gate_place, gate_fits, gate_at}
 use Rattle.aiger_read.specs.Files.{gate_rows, body_of, file_read}
 use Rattle.aiger_read.specs.Read.{read_end, placed_end, read_as, read_of}
 
 -- a text is read as a netlist, into a buffer of just its length
 abbrev reads : List ℕ → List ℕ → Type 0
-reads text net = read_of text (map (λ _. 0) net) ≡ read_end (Numbers (length net)) net
+reads text net = read_of text (map (λ _. 0) net) ≡ read_end (Ok (length net)) net
 
 -- or into one with two numbers more, which stay
 abbrev reads_in : List ℕ → List ℕ → Type 0
-reads_in text net = read_of text (map (λ _. 0) net ++ (7 ∷ 8 ∷ [])) ≡ read_end (Numbers (length net)) (net ++ (7 ∷ 8 ∷ []))
+reads_in text net = read_of text (map (λ _. 0) net ++ (7 ∷ 8 ∷ [])) ≡ read_end (Ok (length net)) (net ++ (7 ∷ 8 ∷ []))
 
 -- or refused at a line
 abbrev refuses : List ℕ → Fault → ℕ → Type 0
-refuses text fault line = read_of text [] ≡ read_end (Refused (FaultyLine fault line)) []
+refuses text fault line = read_of text [] ≡ read_end (Err (FaultyLine fault line)) []
 
 -- or for gates that wait on each other, with no buffer and with one
 abbrev waits : List ℕ → Type 0
-waits text = (read_of text [] ≡ read_end (Refused WaitingGates) []) × (read_of text (7 ∷ 8 ∷ []) ≡ read_end (Refused WaitingGates) (7 ∷ 8 ∷ []))
+waits text = (read_of text [] ≡ read_end (Err WaitingGates) []) × (read_of text (7 ∷ 8 ∷ []) ≡ read_end (Err WaitingGates) (7 ∷ 8 ∷ []))
 
 -- Four latches and a gate: the second latch in line 4, the output in line 7 and the gate in line 8 are open.
 -- The first latch's reset is left out, the third's is 1, and the fourth is uninitialised.

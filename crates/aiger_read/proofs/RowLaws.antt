@@ -1,4 +1,5 @@
 -- What each kind of line says, test by test, of a line whose numbers were read. Assumes nothing.
+use Rattle.std.specs.Prelude.{Option, Some, None}
 use mathlib.Core.Path.{◌≡◌, refl, ap, ◌∙◌}
 use mathlib.Core.Bool.{Bool, true, false, not, ◌&&◌}
 use mathlib.Core.List.{List, [], ◌∷◌}
@@ -20,33 +21,33 @@ use Rattle.aiger_lines.proofs.LineLaws.{judged-wrong, judged_as}
 use Rattle.aiger_read.specs.Lines.{input_at, latch_at, undefined, gate_place, gate_fits, gate_at}
 use Rattle.aiger_read.specs.Private.Steps.{HasPlaces}
 
-module _ (s : List ℕ) (free p : ℕ) (l : Line) where
-  module _ (is : LineIs (fields_of s 0 p) l) where
-    pub input-wrong : (lit : ℕ) → not l.formed ≡ true → fault WrongShape ≡ input_at s lit free p
+module _ (s : List ℕ) (free p : ℕ) (o : Option Line) where
+  module _ (is : LineIs (fields_of s 0 p) o) where
+    pub input-wrong : (lit : ℕ) → o ≡ None → fault WrongShape ≡ input_at s lit free p
     unfolding input_at
-    input-wrong lit h = judged-wrong (fields_of s 0 p) l is h _
+    input-wrong lit h = judged-wrong (fields_of s 0 p) o is h _
 
-    pub input_bad : (lit : ℕ) → not l.formed ≡ false → (get_or l.values 0 0 ≡ lit → ⊥) → fault OutOfLimits ≡ input_at s lit free p
+    pub input_bad : (lit : ℕ) (l : Line) → o ≡ Some l → (get_or l.values 0 0 ≡ lit → ⊥) → fault OutOfLimits ≡ input_at s lit free p
     unfolding input_at
-    input_bad lit h n = judged_as (fields_of s 0 p) l is h _ _ (λ vs e. rw (← e 0) (rw (ne_eqb (get_or l.values 0 0) lit n)))
+    input_bad lit l h n = judged_as (fields_of s 0 p) o l is h _ _ (λ vs e. rw (← e 0) (rw (ne_eqb (get_or l.values 0 0) lit n)))
 
-    pub input_good : (lit : ℕ) → not l.formed ≡ false → get_or l.values 0 0 ≡ lit → row [] free l.next ≡ input_at s lit free p
+    pub input_good : (lit : ℕ) (l : Line) → o ≡ Some l → get_or l.values 0 0 ≡ lit → row [] free l.next ≡ input_at s lit free p
     unfolding input_at
-    input_good lit h n = judged_as (fields_of s 0 p) l is h _ _ (λ vs e. rw (← e 0) (rw (eq-eqb (get_or l.values 0 0) lit n)))
+    input_good lit l h n = judged_as (fields_of s 0 p) o l is h _ _ (λ vs e. rw (← e 0) (rw (eq-eqb (get_or l.values 0 0) lit n)))
 
-  module _ (is : LineIs (either_of s 1 p) l) (last lit : ℕ) where
-    pub latch_wrong : not l.formed ≡ true → fault WrongShape ≡ latch_at s last lit free p
+  module _ (is : LineIs (either_of s 1 p) o) (last lit : ℕ) where
+    pub latch_wrong : o ≡ None → fault WrongShape ≡ latch_at s last lit free p
     unfolding latch_at
-    latch_wrong h = judged-wrong (either_of s 1 p) l is h _
+    latch_wrong h = judged-wrong (either_of s 1 p) o is h _
 
-    pub latch_other : not l.formed ≡ false → (get_or l.values 0 0 ≡ lit → ⊥) → fault OutOfLimits ≡ latch_at s last lit free p
+    pub latch_other : (l : Line) → o ≡ Some l → (get_or l.values 0 0 ≡ lit → ⊥) → fault OutOfLimits ≡ latch_at s last lit free p
     unfolding latch_at
-    latch_other h n = judged_as (either_of s 1 p) l is h _ _ (λ vs e. rw (← e 0) (rw (ne_eqb (get_or l.values 0 0) lit n)))
+    latch_other l h n = judged_as (either_of s 1 p) o l is h _ _ (λ vs e. rw (← e 0) (rw (ne_eqb (get_or l.values 0 0) lit n)))
 
-    pub latch_own : not l.formed ≡ false → get_or l.values 0 0 ≡ lit → (r : Row) → r ≡ latch_says last lit free (get_or l.values 1 0) (get_or l.values 2 0) l.next → r ≡ latch_at s last lit free p
+    pub latch_own : (l : Line) → o ≡ Some l → get_or l.values 0 0 ≡ lit → (r : Row) → r ≡ latch_says last lit free (get_or l.values 1 0) (get_or l.values 2 0) l.next → r ≡ latch_at s last lit free p
     unfolding latch_at
-    latch_own h n r x =
-        judged_as (either_of s 1 p) l is h _ _
+    latch_own l h n r x =
+        judged_as (either_of s 1 p) o l is h _ _
         (λ vs e. rw (← e 0, ← e 1, ← e 2) (rw (eq-eqb (get_or l.values 0 0) lit n) x))
 
 -- ---- gates
@@ -123,19 +124,19 @@ module _ (first m : ℕ) (ops : List ℕ) where
         (omega (arith, t.own, t.to, literal-plain (variable_of lit)), omega (arith, t.left), omega (arith, t.right))
 
 -- what the line says, test by test
-module _ (s : List ℕ) (p : ℕ) (l : Line) (is : LineIs (fields_of s 2 p) l) (first m : ℕ) (ops : List ℕ) where
-  abbrev v : ℕ → ℕ
-  v k = get_or l.values k 0
-
-  pub gate-wrong : not l.formed ≡ true → (free : ℕ) → fault WrongShape ≡ gate_at s first m ops free p
+module _ (s : List ℕ) (p : ℕ) (o : Option Line) (is : LineIs (fields_of s 2 p) o) (first m : ℕ) (ops : List ℕ) where
+  pub gate-wrong : o ≡ None → (free : ℕ) → fault WrongShape ≡ gate_at s first m ops free p
   unfolding gate_at
-  gate-wrong h free = judged-wrong (fields_of s 2 p) l is h _
+  gate-wrong h free = judged-wrong (fields_of s 2 p) o is h _
 
-  module _ (h : not l.formed ≡ false) where
+  module _ (l : Line) (h : o ≡ Some l) where
+    abbrev v : ℕ → ℕ
+    v k = get_or l.values k 0
+
     pub gate_bad : gate_fits first m ops (v 0 ∷ v 1 ∷ v 2 ∷ []) ≡ false → (free : ℕ) → fault OutOfLimits ≡ gate_at s first m ops free p
     unfolding gate_at gate_fits
-    gate_bad n free = judged_as (fields_of s 2 p) l is h _ _ (λ vs e. rw (← e 0, ← e 1, ← e 2) (rw n))
+    gate_bad n free = judged_as (fields_of s 2 p) o l is h _ _ (λ vs e. rw (← e 0, ← e 1, ← e 2) (rw n))
 
     pub gate_good : gate_fits first m ops (v 0 ∷ v 1 ∷ v 2 ∷ []) ≡ true → (free : ℕ) → row (sets ops (gate_place first (v 0)) (v 1 ∷ v 2 ∷ [])) free l.next ≡ gate_at s first m ops free p
     unfolding gate_at gate_fits
-    gate_good n free = judged_as (fields_of s 2 p) l is h _ _ (λ vs e. rw (← e 0, ← e 1, ← e 2) (rw n))
+    gate_good n free = judged_as (fields_of s 2 p) o l is h _ _ (λ vs e. rw (← e 0, ← e 1, ← e 2) (rw n))

@@ -1,7 +1,7 @@
 -- What the contract of read claims: it takes exactly the files, their gates in whatever order, that do not wait on
 -- each other; the netlist that it gives means what the file means; files with their gates in order read as before;
 -- gates that wait on each other are told as such; and every fault of a line is told at that line. Assumes nothing.
-use Rattle.std.specs.Prelude.{◌≡◌, Bool, true, false, List, [], ◌∷◌, ◌++◌, ◌⊎◌, ℕ, ◌+◌, ◌*◌, ◌<◌, ◌≤◌, length, get_or, take, drop}
+use Rattle.std.specs.Prelude.{Result, Ok, Err, ◌≡◌, Bool, true, false, List, [], ◌∷◌, ◌++◌, ◌⊎◌, ℕ, ◌+◌, ◌*◌, ◌<◌, ◌≤◌, length, get_or, take, drop}
 use Rattle.text.specs.Quoted.{bytes}
 use Rattle.text.specs.Numbers.{digits}
 use Rattle.text.specs.Writer.{joined}
@@ -17,8 +17,6 @@ use Rattle.aiger_lines.specs.declared.Fault.{Fault}
 use Rattle.aiger_lines.specs.declared.Fault.TheVariants.{WrongShape, OutOfLimits}
 use Rattle.aiger_read.specs.declared.Cause.{Cause}
 use Rattle.aiger_read.specs.declared.Cause.TheVariants.{TextTooLong, ShortBuffer, FaultyLine, WaitingGates}
-use Rattle.aiger_read.specs.declared.ReadOutcome.{ReadOutcome}
-use Rattle.aiger_read.specs.declared.ReadOutcome.TheVariants.{Numbers, Refused}
 use Rattle.aiger_read.specs.Read.{refusal_of, read_end, read_of}
 
 -- ---- the files
@@ -117,12 +115,12 @@ pub record Defines (loose order : List ℕ) (lit r0 r1 : ℕ) : Type 0 where
 
 -- what a read is refused with, the buffer as it was
 abbrev pub Refuses : List ℕ → List ℕ → Cause → Type 0
-Refuses text buf cause = read_of text buf ≡ read_end (Refused cause) buf
+Refuses text buf cause = read_of text buf ≡ read_end (Err cause) buf
 
 -- THE CLAIM, of any text and any buffer lent
 pub record ReadMeans : Type 0 where
   -- an end has the answer and the numbers given
-  pub ends : (r : ReadOutcome) (n : List ℕ) → ((read_end r n).answer ≡ r) × ((read_end r n).net ≡ n)
+  pub ends : (r : Result ℕ Cause) (n : List ℕ) → ((read_end r n).answer ≡ r) × ((read_end r n).net ≡ n)
   -- the causes below have the numbers of the documents' tables
   pub numbered : (line : ℕ) → (refusal_of TextTooLong ≡ record { number = 1; line = 0 }) × (refusal_of ShortBuffer ≡ record { number = 12; line = 0 })
       × (refusal_of (FaultyLine WrongShape line) ≡ record { number = 13; line = line }) × (refusal_of (FaultyLine OutOfLimits line) ≡ record { number = 14; line = line })
@@ -130,7 +128,7 @@ pub record ReadMeans : Type 0 where
   -- a file whose gates can be placed is taken where the buffer has room for its netlist: the numbers stand first, the
   -- surplus stays
   pub takes : (text loose net buf : List ℕ) → IsFile text loose → PlacedAs loose net → length net ≤ length buf
-      → read_of text buf ≡ read_end (Numbers (length net)) (net ++ drop (length net) buf)
+      → read_of text buf ≡ read_end (Ok (length net)) (net ++ drop (length net) buf)
   -- and refused as such where it has none
   pub short : (text loose net buf : List ℕ) → IsFile text loose → PlacedAs loose net → length buf < length net → Refuses text buf ShortBuffer
   -- a file whose gates wait on each other is refused as such, whatever the buffer
@@ -138,20 +136,20 @@ pub record ReadMeans : Type 0 where
   -- every file is one of the two
   pub either : (text loose : List ℕ) → IsFile text loose → ((net : List ℕ) × PlacedAs loose net) ⊎ Stuck loose
   -- what is taken is a file, and gives the numbers of its netlist
-  pub only : (text buf : List ℕ) (n : ℕ) (after : List ℕ) → read_of text buf ≡ read_end (Numbers n) after
+  pub only : (text buf : List ℕ) (n : ℕ) (after : List ℕ) → read_of text buf ≡ read_end (Ok n) after
       → (loose net : List ℕ) × IsFile text loose × PlacedAs loose net × (n ≡ length net) × (after ≡ net ++ drop n buf)
   -- and what is refused for gates that wait on each other is a file with such gates
-  pub stuck : (text buf after : List ℕ) → read_of text buf ≡ read_end (Refused WaitingGates) after → (loose : List ℕ) × IsFile text loose × Stuck loose
+  pub stuck : (text buf after : List ℕ) → read_of text buf ≡ read_end (Err WaitingGates) after → (loose : List ℕ) × IsFile text loose × Stuck loose
   -- the numbers are a netlist, and its outputs and next states are those of AIGER's meaning of the file itself
   pub means : (text loose net : List ℕ) → IsFile text loose → PlacedAs loose net → (is_netlist net ≡ true) × SameMeaning loose net
   -- a text is a file of one list of numbers only
   pub one : (text loose other : List ℕ) → IsFile text loose → IsFile text other → loose ≡ other
   -- a netlist's file, its gate lines in whatever order, reads as the netlist
   pub shuffled : (net order buf : List ℕ) (explicit : ℕ → Bool) → is_netlist net ≡ true → length net ≡ size_of net → Once net order → length order ≡ gate_count net
-      → length net ≤ length buf → read_of (file_by net explicit order) buf ≡ read_end (Numbers (length net)) (net ++ drop (length net) buf)
+      → length net ≤ length buf → read_of (file_by net explicit order) buf ≡ read_end (Ok (length net)) (net ++ drop (length net) buf)
   -- "Files taken before read as before": those with the gates in their order, each with the larger operand first
   pub before : (net buf : List ℕ) (explicit : ℕ → Bool) → is_netlist net ≡ true → length net ≡ size_of net → length net ≤ length buf
-      → read_of (file_with net explicit) buf ≡ read_end (Numbers (length net)) (net ++ drop (length net) buf)
+      → read_of (file_with net explicit) buf ≡ read_end (Ok (length net)) (net ++ drop (length net) buf)
   -- and are refused as before where the buffer has no room
   pub before-short : (net buf : List ℕ) (explicit : ℕ → Bool) → is_netlist net ≡ true → length net ≡ size_of net → length buf < length net
       → Refuses (file_with net explicit) buf ShortBuffer
@@ -162,7 +160,7 @@ pub record ReadMeans : Type 0 where
       → (fault : Fault) × (line : ℕ) × Refuses text buf (FaultyLine fault line)
   -- what was written of a netlist, whatever its surplus, reads as the same numbers
   pub back : (net buf : List ℕ) → is_netlist net ≡ true → size_of net ≤ length buf
-      → read_of (file_of net) buf ≡ read_end (Numbers (size_of net)) (take (size_of net) net ++ drop (size_of net) buf)
+      → read_of (file_of net) buf ≡ read_end (Ok (size_of net)) (take (size_of net) net ++ drop (size_of net) buf)
   -- two netlists with the same written text are the same
   pub same : (net other : List ℕ) → is_netlist net ≡ true → is_netlist other ≡ true → file_of net ≡ file_of other
       → take (size_of net) net ≡ take (size_of other) other

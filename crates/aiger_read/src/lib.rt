@@ -7,11 +7,11 @@
 ghost use Rattle.std.specs.Prelude.{◌≡◌};
 ghost use Rattle.aiger_read.specs.Read.{refusal_of, read_end, read_of};
 ghost use Rattle.aiger_read.specs.Claims.{ReadMeans};
-ghost use Rattle.aiger_read.specs.Private.Steps.{outcome_of};
+ghost use Rattle.aiger_read.specs.declared.Cause.TheVariants.{FaultyLine};
+ghost use Rattle.aiger_read.specs.Private.Steps.{cause_of};
 
-use aiger_lines::{Fault, Passed};
-use aiger_order::{Placing, place};
-use netlist::{Literal, Variable};
+use aiger_lines::Fault;
+use aiger_order::{Unplaced, place};
 use text::Refusal;
 
 mod files;
@@ -41,15 +41,9 @@ impl Cause {
                 number: 12,
                 line: 0,
             },
-            Cause::FaultyLine(fault, line) => match fault {
-                Fault::WrongShape => Refusal {
-                    number: 13,
-                    line: line,
-                },
-                Fault::OutOfLimits => Refusal {
-                    number: 14,
-                    line: line,
-                },
+            Cause::FaultyLine(fault, line) => Refusal {
+                number: fault.number(),
+                line: line,
             },
             Cause::WaitingGates => Refusal {
                 number: 23,
@@ -59,11 +53,25 @@ impl Cause {
     }
 }
 
-#[derive(Clone, Copy)]
-pub enum ReadOutcome {
-    // How many numbers the netlist has.
-    Numbers(usize),
-    Refused(Cause),
+impl From<(Fault, u32)> for Cause {
+    ghost from_gives = { λ e c. c ≡ FaultyLine e.0 e.1 };
+
+    fn from(faulty: (Fault, u32)) -> Cause {
+        Cause::FaultyLine(faulty.0, faulty.1)
+    }
+}
+
+impl From<Unplaced> for Cause {
+    ghost from_gives = { λ e c. c ≡ cause_of e };
+
+    // Numbers that were read are loose.
+    fn from(unplaced: Unplaced) -> Cause {
+        match unplaced {
+            Unplaced::Waiting => Cause::WaitingGates,
+            Unplaced::ShortBuffer => Cause::ShortBuffer,
+            Unplaced::NotLoose => Cause::WaitingGates,
+        }
+    }
 }
 
 // The longest text.
@@ -73,57 +81,17 @@ const MAX_TEXT: usize = 65536;
 // the two outputs, which have a line each.
 const MOST: usize = 8199;
 
-// The answer, by that of placing. Numbers that were read are loose.
-fn outcome(placing: Placing) -> ReadOutcome
-    ensures { result ≡ outcome_of placing }
-{
-    match placing {
-        Placing::Placed(count) => ReadOutcome::Numbers(count),
-        Placing::Waiting => ReadOutcome::Refused(Cause::WaitingGates),
-        Placing::ShortBuffer => ReadOutcome::Refused(Cause::ShortBuffer),
-        Placing::NotLoose => ReadOutcome::Refused(Cause::WaitingGates),
-    }
-}
-
-// Reads the netlist of a file, its gates in whatever order, to the front of a lent buffer. A refusal leaves the
-// buffer as it was.
-pub fn read(text: &[u8], net: &mut [u16]) -> ReadOutcome
+// Reads the netlist of a file, its gates in whatever order, to the front of a lent buffer, and answers how many numbers
+// it has. A refusal leaves the buffer as it was.
+pub fn read(text: &[u8], net: &mut [u16]) -> Result<usize, Cause>
     ensures net_after { read_end result net.new ≡ read_of text.now net.old }
     ensures exact { ReadMeans }
 {
     if text.len() > MAX_TEXT {
-        return ReadOutcome::Refused(Cause::TextTooLong);
+        return Err(Cause::TextTooLong);
     }
     let mut loose = [0u16; MOST];
-    match files::read_file(text, &mut loose) {
-        Passed::Past(end) => {
-            let placing = place(&loose[..end.place], net);
-            outcome(placing)
-        }
-        Passed::Failed(fault, line) => ReadOutcome::Refused(Cause::FaultyLine(fault, line)),
-    }
-}
-
-// The kinds of lines between the header and the gates. Those of inputs and latches have the variable of the
-// first one, and those of latches and outputs the largest literal.
-#[derive(Clone, Copy)]
-enum Kind {
-    Input(Variable),
-    Latch(Variable, Literal),
-    Output(Literal),
-}
-
-// Lines of one kind: how many, and the line number of the first.
-#[derive(Clone, Copy)]
-struct Block {
-    kind: Kind,
-    count: u16,
-    line: u32,
-}
-
-// The place after a gate's line, or the line's fault.
-#[derive(Clone, Copy)]
-enum GateRead {
-    Next(usize),
-    Bad(Fault),
+    let end = files::read_file(text, &mut loose)?;
+    let count = place(&loose[..end.place], net)?;
+    Ok(count)
 }

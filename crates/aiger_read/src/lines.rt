@@ -1,30 +1,25 @@
 // What each kind of line says. A number becomes a literal once it is known to fit.
-ghost use Rattle.std.specs.Prelude.{◌≡◌, false, [], ◌∷◌, ℕ, ◌+◌, ◌<◌, ◌≤◌};
-ghost use Rattle.netlist.specs.Literals.{literal_of, variable_of};
+ghost use Rattle.std.specs.Prelude.{◌≡◌, [], ◌∷◌, ℕ, ◌≤◌};
+ghost use Rattle.netlist.specs.Literals.{variable_of};
 ghost use Rattle.aiger_lines.specs.Private.Steps.{row_in};
 ghost use Rattle.aiger_read.specs.Lines.{input_at, latch_at, gate_place, gate_fits, gate_at};
-ghost use Rattle.aiger_read.specs.Private.Steps.{first_of, kind_at, HasPlaces, gate_in};
+ghost use Rattle.aiger_read.specs.Private.Steps.{HasPlaces, gate_in};
 
-use crate::{GateRead, Kind};
 use aiger_lines::{
-    Fault, Given, LineRead, Literals, latch_says, one_number, output_line, store_pair,
-    three_numbers, two_or_three,
+    Fault, Given, Literals, latch_says, one_number, store_pair, three_numbers, two_or_three,
 };
 use netlist::{Literal, Variable};
 
 // An input has the literal due.
-fn input_line(s: &[u8], lit: Literal, free: usize, at: usize) -> LineRead
+pub(crate) fn input_line(s: &[u8], lit: Literal, free: usize, at: usize) -> Result<Given, Fault>
     ensures { row_in result ≡ input_at s.now lit.0 free at }
 {
-    let line = one_number(s, at);
-    if !line.formed {
-        return LineRead::Bad(Fault::WrongShape);
-    }
+    let line = one_number(s, at).ok_or(Fault::WrongShape)?;
     let values = line.values;
     if values[0] != lit.0 as usize {
-        return LineRead::Bad(Fault::OutOfLimits);
+        return Err(Fault::OutOfLimits);
     }
-    LineRead::Good(Given {
+    Ok(Given {
         literals: Literals::None,
         free: free,
         next: line.next,
@@ -32,16 +27,19 @@ fn input_line(s: &[u8], lit: Literal, free: usize, at: usize) -> LineRead
 }
 
 // A latch has the literal due, next at most `last`, and a reset of 0, 1 or its own literal.
-fn latch_line(s: &[u8], last: Literal, lit: Literal, free: usize, at: usize) -> LineRead
+pub(crate) fn latch_line(
+    s: &[u8],
+    last: Literal,
+    lit: Literal,
+    free: usize,
+    at: usize,
+) -> Result<Given, Fault>
     ensures { row_in result ≡ latch_at s.now last.0 lit.0 free at }
 {
-    let line = two_or_three(s, at);
-    if !line.formed {
-        return LineRead::Bad(Fault::WrongShape);
-    }
+    let line = two_or_three(s, at).ok_or(Fault::WrongShape)?;
     let latch = line.values;
     if latch[0] != lit.0 as usize {
-        return LineRead::Bad(Fault::OutOfLimits);
+        return Err(Fault::OutOfLimits);
     }
     latch_says(last, lit, latch[1], latch[2], free, line.next)
 }
@@ -91,45 +89,16 @@ pub(crate) fn gate_line(
     first: Variable,
     last: Variable,
     at: usize,
-) -> GateRead
+) -> Result<usize, Fault>
     requires { HasPlaces first.0 last.0 ops.old }
     ensures { (free : ℕ) → gate_in free result ops.new ≡ gate_at s.now first.0 last.0 ops.old free at }
 {
-    let line = three_numbers(s, at);
-    if !line.formed {
-        return GateRead::Bad(Fault::WrongShape);
-    }
+    let line = three_numbers(s, at).ok_or(Fault::WrongShape)?;
     let gate = line.values;
     if !gate_fits(ops, first, last, gate[0], gate[1], gate[2]) {
-        return GateRead::Bad(Fault::OutOfLimits);
+        return Err(Fault::OutOfLimits);
     }
     let place = gate_place(first, Literal(gate[0] as u16));
     store_pair(ops, place, gate[1] as u16, gate[2] as u16);
-    GateRead::Next(line.next)
-}
-
-// The literal of the variable k places after the first one.
-fn literal_due(first: Variable, k: u16) -> Literal
-    requires { first.0 + k < 32768 }
-    ensures { result.0 ≡ literal_of (first.0 + k) false }
-{
-    Variable(first.0 + k).literal(false)
-}
-
-// Line k of a kind.
-pub(crate) fn line_of(s: &[u8], kind: Kind, k: u16, free: usize, at: usize) -> LineRead
-    requires { first_of kind + k < 32768 }
-    ensures { row_in result ≡ kind_at s.now kind k free at }
-{
-    match kind {
-        Kind::Input(first) => {
-            let lit = literal_due(first, k);
-            input_line(s, lit, free, at)
-        }
-        Kind::Latch(first, last) => {
-            let lit = literal_due(first, k);
-            latch_line(s, last, lit, free, at)
-        }
-        Kind::Output(last) => output_line(s, last, free, at),
-    }
+    Ok(line.next)
 }

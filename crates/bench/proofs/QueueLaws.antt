@@ -1,58 +1,29 @@
 -- Laws of the loops over a queue. Assumes nothing.
-use mathlib.Core.Path.{◌≡◌, refl, sym, ap, ◌∙◌}
+use mathlib.Core.Path.{◌≡◌, sym, ap, ◌∙◌}
 use mathlib.Core.Bool.{Bool, true, false, ◌&&◌}
-use mathlib.Core.List.{List, [], ◌∷◌, ◌++◌, append_assoc}
+use mathlib.Core.List.{List, ◌++◌}
 use Prim.Native.Nat.{ℕ, suc, ◌+◌, ◌-◌, ◌*◌, ◌<◌, ◌≤◌}
 use native.Mathlib.Omega.{arith}
-use native.Mathlib.Numerals.{add-one}
-use lib.ListN.{length, get_or, set, take, drop, length-drop}
-use lib.Seq.{paste, take-suc, take-length, drop-cons, set_at, drop-drop, get_or-append-add, get_or-drop, length-take-le}
+use Rattle.std.specs.List.{copy_within}
+use native.Mathlib.Nat.{zero-add}
+use lib.ListN.{length, take, drop}
+use lib.Seq.{drop-drop}
 use Rattle.trace.specs.Traces.{is_cycle}
 use Rattle.bench_turns.specs.Parts.{cycles_in, are_cycles, placed, shifted}
 
 -- ---- a new cycle is copied
-pub placed-is : (n : ℕ) (c q : List ℕ) → paste q (64 * n) c (length c) ≡ placed n c q
+pub placed-is : (n : ℕ) (c q p : List ℕ) → p ≡ c → take (64 * n) q ++ (p ++ drop (64 * n + length c - 64 * n) (drop (64 * n) q)) ≡ placed n c q
 unfolding placed
-placed-is n c q =
-    append_assoc (take (64 * n) q) (take (length c) c) (drop (64 * n + length c) q)
-    ∙ ap (λ (z : List ℕ). take (64 * n) q ++ (z ++ drop (64 * n + length c) q)) (take-length c)
+placed-is n c q p e =
+    let l : 64 * n + length c - 64 * n ≡ length c = omega arith in
+    rw (e, l, drop-drop (length c) (64 * n) q)
 
 -- ---- bytes move one slot forward
-unfoldable pub moved_up : ℕ → List ℕ → List ℕ
-moved_up i q = take i (drop 64 q) ++ drop i q
-
-pub up_none : (q : List ℕ) → q ≡ moved_up 0 q
-unfolding moved_up
-up_none q = refl
-
-pub up_all : (n : ℕ) (q : List ℕ) → moved_up (64 * n) q ≡ shifted n q
-unfolding moved_up shifted
-up_all n q = refl
-
-module _ (i : ℕ) (q : List ℕ) (h : i + 64 < length q) where
-  front_length : length (take i (drop 64 q)) ≡ i
-  front_length = length-take-le i (drop 64 q) (rw (length-drop 64 q) (omega arith))
-
-  -- the byte a slot further is still the one that was there
-  ahead : get_or (moved_up i q) (i + 64) 0 ≡ get_or (drop 64 q) i 0
-  unfolding moved_up
-  ahead =
-      ap (λ (z : ℕ). get_or (take i (drop 64 q) ++ drop i q) (z + 64) 0) (sym front_length)
-      ∙ get_or-append-add (take i (drop 64 q)) (drop i q) 64 0
-      ∙ get_or-drop i q 64 0
-      ∙ ap (λ (z : ℕ). get_or q z 0) (omega arith)
-      ∙ sym (get_or-drop 64 q i 0)
-
-  pub up_more : set (moved_up i q) i (get_or (moved_up i q) (i + 64) 0) ≡ moved_up (i + 1) q
-  unfolding moved_up
-  up_more =
-      let x = get_or (drop 64 q) i 0 in
-      ap (λ (z : ℕ). set (take i (drop 64 q) ++ drop i q) i z) ahead
-      ∙ ap (λ (z : List ℕ). set (take i (drop 64 q) ++ z) i x) (drop-cons q i 0 (omega arith))
-      ∙ set_at (take i (drop 64 q)) (get_or q i 0) (drop (suc i) q) x i front_length
-      ∙ sym (append_assoc (take i (drop 64 q)) (x ∷ []) (drop (suc i) q))
-      ∙ ap (λ (z : List ℕ). z ++ drop (suc i) q) (sym (take-suc (drop 64 q) i 0 (rw (length-drop 64 q) (omega arith))))
-      ∙ ap (λ (z : ℕ). take z (drop 64 q) ++ drop z q) (sym (add-one i))
+pub shifted-is : (n : ℕ) (q p : List ℕ) → p ≡ copy_within q 64 (64 + 64 * n) 0 → p ≡ shifted n q
+unfolding shifted
+shifted-is n q p e =
+    let l : 64 + 64 * n - 64 ≡ 64 * n = omega arith in
+    e ∙ rw (l, zero-add)
 
 -- ---- the waiting cycles, one after another
 -- those from slot j on

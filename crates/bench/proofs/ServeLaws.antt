@@ -1,30 +1,25 @@
 -- Laws of a turn: on a bench its machine's step can be refused for short words or a full tally only, and the turn ends as
 -- the step does. Assumes nothing.
+use Rattle.std.specs.Prelude.{Some, None, Result, Ok, Err}
+use Rattle.bench_turns.specs.declared.Cause as bench
 use mathlib.Core.Path.{◌≡◌, refl, sym, ap, subst, ◌∙◌}
 use mathlib.Core.Bool.{Bool, true, false, cond, not, ◌&&◌}
 use mathlib.Core.List.{List}
 use Prim.Native.Nat.{ℕ, suc, ◌-◌, ◌*◌, ◌<◌, ◌≤◌}
 use native.Mathlib.Omega.{arith}
 use lib.ListN.{length, take}
-use borrow.Author.Tests.{eq-eqb, ne_eqb}
 use Rattle.netlist.specs.Layout.{input_count}
 use Rattle.netlist.proofs.ValidLaws.{valid}
 use Rattle.assertion.specs.Graph.{Cycle}
 use Rattle.trace.specs.Traces.{is_cycle}
 use Rattle.calls.specs.declared.refusal.Cause.{Cause}
 use Rattle.calls.specs.declared.refusal.Cause.TheVariants as cause
-use Rattle.calls.specs.declared.refusal.Tested as calls
-use Rattle.calls.specs.declared.refusal.Tested.TheVariants as tested
 use Rattle.calls.specs.declared.tally.Tally.{Tally}
 use Rattle.calls.specs.Tallies.{has_room}
 use Rattle.calls.specs.Refusals.{has_latches, has_values, step_check}
 use Rattle.simulator.specs.declared.outcome.Stepped.{Stepped}
-use Rattle.simulator.specs.declared.outcome.StepOutcome.TheVariants as step
 use Rattle.simulator.specs.Step.{step_as, step_of}
 use Rattle.bench_turns.specs.declared.Cause.TheVariants.{NotBench, ShortBuffer, FullTally}
-use Rattle.bench_turns.specs.declared.Tested.{Tested}
-use Rattle.bench_turns.specs.declared.Tested.TheVariants.{Passed, Failed}
-use Rattle.bench_turns.specs.declared.Turned.TheVariants.{Idle, Served, Refused}
 use Rattle.bench_turns.specs.Parts.{part_of, with_part, cycles_in, are_cycles, shifted}
 use Rattle.bench_turns.specs.Numbers.{waiting_of, tally_of, last_of, with_waiting, with_tally, with_last, is_bench}
 use Rattle.bench_turns.specs.Refusals.{next_machine, is_idle, turn_check}
@@ -32,7 +27,7 @@ use Rattle.bench_turns.specs.Turn.{turn_end, oldest, first_word, second_word, st
 use Rattle.bench_turns.proofs.QueueLaws.{are-first, shifted-cycles}
 use Rattle.bench_turns.proofs.CheckLaws.{PlaceReady, BenchReady, bench-ready}
 use Rattle.bench_turns.proofs.RoundLaws.{Next, next-is, waits-some}
-use Rattle.bench.specs.Private.Causes.{cause_of}
+use Rattle.bench_turns.specs.Refusals.{cause_of}
 use Rattle.bench.proofs.SliceLaws.{with_own}
 
 -- ---- a place with a cycle waiting
@@ -62,41 +57,41 @@ step_is_for nets latches values queues bench k net en queue eq i ei t et r l v h
 
 -- ---- how a step ends
 module _ (net cycle latches values : List ℕ) (t : Tally) where
-  abbrev check : calls.Tested
+  abbrev check : Result Unit Cause
   check = step_check net cycle (length latches) (length values) t
 
   pub record RefusedSo (cause : Cause) : Type 0 where
-    pub failed : check ≡ tested.Failed cause
+    pub failed : check ≡ Err cause
     pub latches-same : (step_of net cycle latches values t).latches ≡ latches
     pub values_same : (step_of net cycle latches values t).values ≡ values
 
-  refused_as_lem : (c : calls.Tested) → check ≡ c → (cause : Cause) → (step_as c net cycle latches values t).answer.outcome ≡ step.Refused cause
-      → (check ≡ tested.Failed cause) × ((step_as c net cycle latches values t).latches ≡ latches) × ((step_as c net cycle latches values t).values ≡ values)
+  refused_as_lem : (c : Result Unit Cause) → check ≡ c → (cause : Cause) → (step_as c net cycle latches values t).answer.outcome ≡ Err cause
+      → (check ≡ Err cause) × ((step_as c net cycle latches values t).latches ≡ latches) × ((step_as c net cycle latches values t).values ≡ values)
   unfolding step_as
-  refused_as_lem tested.Passed is cause e = let z : ◌≡◌ {A = ℕ} 0 1 = cc in absurd (omega arith)
-  refused_as_lem (tested.Failed other) is cause e = let same : other ≡ cause = cc in (is ∙ ap tested.Failed same, refl, refl)
+  refused_as_lem (Ok tt) is cause e = let z : ◌≡◌ {A = ℕ} 0 1 = cc in absurd (omega arith)
+  refused_as_lem (Err other) is cause e = let same : other ≡ cause = cc in (is ∙ ap Err same, refl, refl)
 
-  pub step_refusal : (cause : Cause) → (step_of net cycle latches values t).answer.outcome ≡ step.Refused cause → RefusedSo cause
+  pub step_refusal : (cause : Cause) → (step_of net cycle latches values t).answer.outcome ≡ Err cause → RefusedSo cause
   unfolding step_of
   step_refusal cause e = let r = refused_as_lem check refl cause e in record { failed = r.0; latches-same = r.1; values_same = r.2 }
 
-  output_as : (c : calls.Tested) → check ≡ c → (w d : ℕ) → (step_as c net cycle latches values t).answer.outcome ≡ step.Output w d → check ≡ tested.Passed
+  output_as : (c : Result Unit Cause) → check ≡ c → (w d : ℕ) → (step_as c net cycle latches values t).answer.outcome ≡ Ok (w, d) → check ≡ Ok tt
   unfolding step_as
-  output_as tested.Passed is w d e = is
-  output_as (tested.Failed other) is w d e = let z : ◌≡◌ {A = ℕ} 0 1 = cc in absurd (omega arith)
+  output_as (Ok tt) is w d e = is
+  output_as (Err other) is w d e = let z : ◌≡◌ {A = ℕ} 0 1 = cc in absurd (omega arith)
 
-  pub step_output : (w d : ℕ) → (step_of net cycle latches values t).answer.outcome ≡ step.Output w d → check ≡ tested.Passed
+  pub step_output : (w d : ℕ) → (step_of net cycle latches values t).answer.outcome ≡ Ok (w, d) → check ≡ Ok tt
   unfolding step_of
   step_output w d e = output_as check refl w d e
 
 -- the test of a turn is that of its machine's step
-unfoldable from_step : calls.Tested → Tested
-from_step tested.Passed = Passed
-from_step (tested.Failed cause) = Failed (cause_of cause)
+unfoldable from_step : Result Unit Cause → Result Unit bench.Cause
+from_step (Ok tt) = Ok tt
+from_step (Err cause) = Err (cause_of cause)
 
 chain : (a b : Bool)
-    → cond (not a) (Failed ShortBuffer) (cond (not b) (Failed FullTally) Passed)
-    ≡ from_step (cond (not a) (tested.Failed cause.ShortBuffer) (cond (not b) (tested.Failed cause.FullTally) tested.Passed))
+    → cond (not a) (Err ShortBuffer) (cond (not b) (Err FullTally) (Ok tt))
+    ≡ from_step (cond (not a) (Err cause.ShortBuffer) (cond (not b) (Err cause.FullTally) (Ok tt)))
 unfolding from_step cause_of
 chain true true = refl
 chain true false = refl
@@ -104,7 +99,7 @@ chain false b = refl
 
 -- ---- a turn of a bench
 module _ (nets latches values queues bench : List ℕ) where
-  pub not-bench : is_bench nets queues bench ≡ false → turn_end (Refused NotBench) latches values queues bench ≡ turn_of nets latches values queues bench
+  pub not-bench : is_bench nets queues bench ≡ false → turn_end (Err NotBench) latches values queues bench ≡ turn_of nets latches values queues bench
   unfolding turn_of turn_as turn_check
   not-bench e = rw e refl
 
@@ -115,15 +110,11 @@ module _ (nets latches values queues bench : List ℕ) where
     pub enough_numbers : (33 ≤ length bench) × (last_of bench ≤ 7)
     enough_numbers = (ready.numbers, ready.last)
 
-    pub nothing-waits : next_machine bench ≡ 8 → turn_end Idle latches values queues bench ≡ turn_of nets latches values queues bench
-    unfolding turn_of turn_as turn_check is_idle
-    nothing-waits n = rw (e, eq-eqb (next_machine bench) 8 n) refl
+    pub nothing-waits : is_idle bench ≡ true → turn_end (Ok None) latches values queues bench ≡ turn_of nets latches values queues bench
+    unfolding turn_of turn_as turn_check
+    nothing-waits n = rw (e, n) refl
 
-    module _ (k : ℕ) (is : k ≡ next_machine bench) (busy : k ≡ 8 → ⊥) where
-      not-idle : is_idle bench ≡ false
-      unfolding is_idle
-      not-idle = ne_eqb (next_machine bench) 8 (λ z. busy (is ∙ z))
-
+    module _ (k : ℕ) (is : k ≡ next_machine bench) (not-idle : is_idle bench ≡ false) where
       next : Next bench k
       next = rw is (next-is bench not-idle)
 
@@ -150,25 +141,25 @@ module _ (nets latches values queues bench : List ℕ) where
 
       module _ (r : Stepped) (l v : List ℕ) (er : r ≡ (step_for k nets latches values queues bench).answer)
           (el : l ≡ with_part k (step_for k nets latches values queues bench).latches latches) (ev : v ≡ (step_for k nets latches values queues bench).values) where
-        pub refuses : (cause : Cause) → r.outcome ≡ step.Refused cause → turn_end (Refused (cause_of cause)) l v queues bench ≡ turn_of nets latches values queues bench
+        pub refuses : (cause : Cause) → r.outcome ≡ Err cause → turn_end (Err (cause_of cause)) l v queues bench ≡ turn_of nets latches values queues bench
         unfolding turn_of turn_as step_for from_step
         refuses cause o =
             let s = step_refusal (part_of k nets) (oldest k nets queues) (part_of k latches) values t cause (ap (λ (z : Stepped). z.outcome) (sym er) ∙ o) in
-            let c : turn_check nets latches values queues bench ≡ Failed (cause_of cause) = tests ∙ ap from_step s.failed in
+            let c : turn_check nets latches values queues bench ≡ Err (cause_of cause) = tests ∙ ap from_step s.failed in
             rw (c, el, ev, s.latches-same, s.values_same, with_own k latches) refl
 
-        passed : (w d : ℕ) → (step_for k nets latches values queues bench).answer.outcome ≡ step.Output w d
-            → step_check (part_of k nets) (oldest k nets queues) (length (part_of k latches)) (length values) t ≡ tested.Passed
+        passed : (w d : ℕ) → (step_for k nets latches values queues bench).answer.outcome ≡ Ok (w, d)
+            → step_check (part_of k nets) (oldest k nets queues) (length (part_of k latches)) (length values) t ≡ Ok tt
         unfolding step_for
         passed w d o = step_output (part_of k nets) (oldest k nets queues) (part_of k latches) values t w d o
 
-        pub serves : (w d : ℕ) → r.outcome ≡ step.Output w d → (q b : List ℕ)
+        pub serves : (w d : ℕ) → r.outcome ≡ Ok (w, d) → (q b : List ℕ)
             → q ≡ with_part k (shifted (waiting_of k bench - 1) (part_of k queues)) queues
             → b ≡ with_last k (with_tally k r.tally (with_waiting k (waiting_of k bench - 1) bench))
-            → turn_end (Served k w d) l v q b ≡ turn_of nets latches values queues bench
+            → turn_end (Ok (Some (k, w, d))) l v q b ≡ turn_of nets latches values queues bench
         unfolding turn_of turn_as serve from_step first_word second_word
         serves w d o q b eq eb =
-            let so : (step_for k nets latches values queues bench).answer.outcome ≡ step.Output w d = ap (λ (z : Stepped). z.outcome) (sym er) ∙ o in
+            let so : (step_for k nets latches values queues bench).answer.outcome ≡ Ok (w, d) = ap (λ (z : Stepped). z.outcome) (sym er) ∙ o in
             let s = passed w d so in
-            let c : turn_check nets latches values queues bench ≡ Passed = tests ∙ ap from_step s in
+            let c : turn_check nets latches values queues bench ≡ Ok tt = tests ∙ ap from_step s in
             rw (c, not-idle, ← is, so, el, ev, eq, eb, er) refl

@@ -1,7 +1,7 @@
 // The bench's 33 numbers.
-ghost use Rattle.std.specs.Prelude.{◌≡◌, ◌*◌, ◌<◌, ◌≤◌, length};
+ghost use Rattle.std.specs.Prelude.{◌≡◌, Some, None, cond, ◌*◌, ◌<◌, ◌≤◌, length};
 ghost use Rattle.bench_turns.specs.Numbers.{waiting_of, tally_of, last_of, with_waiting, with_tally, with_last};
-ghost use Rattle.bench_turns.specs.Refusals.{next_machine};
+ghost use Rattle.bench_turns.specs.Refusals.{next_machine, is_idle};
 
 use calls::Tally;
 
@@ -42,20 +42,17 @@ pub(crate) fn served(bench: &mut [u32], k: usize, left: u32, tally: Tally)
     bench[LAST] = k as u32;
 }
 
-// The next machine, in round order after the last one served, for which a cycle waits; 8 where there is none.
-pub(crate) fn next_machine(bench: &[u32]) -> usize
+// The next machine, in round order after the last one served, for which a cycle waits.
+pub(crate) fn next_machine(bench: &[u32]) -> Option<usize>
     requires { (33 ≤ length bench.now) × (last_of bench.now ≤ 7) }
-    ensures { result ≡ next_machine bench.now }
+    ensures { result ≡ cond (is_idle bench.now) None (Some (next_machine bench.now)) }
 {
     let first = bench[LAST] as usize + 1;
-    let end = first + 8;
-    let mut from = first;
-    while from < end {
+    for from in first..first + 8 {
         let k = from % 8;
         if bench[4 * k] > 0 {
-            return k;
+            return Some(k);
         }
-        from += 1;
     }
-    8
+    None
 }

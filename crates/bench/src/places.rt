@@ -1,38 +1,34 @@
 // Which lent numbers and bytes are a bench: eight netlists, eight queues of cycles, and a machine served last.
-ghost use Rattle.std.specs.Prelude.{◌≡◌, ◌*◌, ◌<◌, ◌≤◌, length};
+ghost use Rattle.std.specs.Prelude.{◌≡◌, ◌+◌, ◌/◌, ◌*◌, ◌<◌, ◌≤◌, length};
 ghost use Rattle.netlist.specs.Lanes.{each};
 ghost use Rattle.bench_turns.specs.Parts.{part_of, cycles_in, are_cycles};
 ghost use Rattle.bench_turns.specs.Numbers.{waiting_of, is_place, is_bench};
 
 use crate::numbers::{LAST, waiting};
 use crate::queues::SLOT;
-use calls::{INPUTS, header};
-use netlist::is_netlist;
+use netlist::{Header, is_netlist};
 use trace::is_cycle;
 
 // The most cycles that wait for a machine.
 pub(crate) const MAX_WAITING: usize = 16;
 
-// The netlist of machine k.
-pub(crate) fn net_of(nets: &[u16], k: usize) -> &[u16]
+// Where the part of machine k begins and ends in a buffer of this length, of which each machine has an eighth.
+pub(crate) fn bounds(length: usize, k: usize) -> (usize, usize)
     requires { k < 8 }
-    ensures { result.now ≡ part_of k nets.now }
+    ensures { (result.0 ≡ k * (length / 8)) × (result.1 ≡ k * (length / 8) + length / 8) }
 {
-    let width = nets.len() / 8;
+    let width = length / 8;
     let at = k * width;
-    let end = at + width;
-    &nets[at..end]
+    (at, at + width)
 }
 
-// The queue of machine k.
-pub(crate) fn queue_of(queues: &[u8], k: usize) -> &[u8]
+// The part of machine k: its netlist or its queue.
+pub(crate) fn part_of<T>(parts: &[T], k: usize) -> &[T]
     requires { k < 8 }
-    ensures { result.now ≡ part_of k queues.now }
+    ensures { result.now ≡ part_of k parts.now }
 {
-    let width = queues.len() / 8;
-    let at = k * width;
-    let end = at + width;
-    &queues[at..end]
+    let (at, end) = bounds(parts.len(), k);
+    &parts[at..end]
 }
 
 // Whether the first n slots of a queue hold cycles of so many inputs.
@@ -40,14 +36,12 @@ fn are_cycles(inputs: usize, n: usize, queue: &[u8]) -> bool
     requires { (inputs ≤ 64) × (64 * n ≤ length queue.now) }
     ensures { result ≡ are_cycles inputs (cycles_in inputs n queue.now) }
 {
-    let mut j: usize = 0;
-    while j < n {
+    for j in 0..n {
         let at = SLOT * j;
         let end = at + inputs;
         if !is_cycle(inputs, &queue[at..end]) {
             return false;
         }
-        j += 1;
     }
     true
 }
@@ -66,7 +60,7 @@ fn is_place(net: &[u16], count: u32, queue: &[u8]) -> bool
     if queue.len() < SLOT * n {
         return false;
     }
-    are_cycles(header(net, INPUTS), n, queue)
+    are_cycles(Header::of(net).inputs as usize, n, queue)
 }
 
 // Whether all eight are places.
@@ -74,12 +68,10 @@ fn are_places(nets: &[u16], queues: &[u8], bench: &[u32]) -> bool
     requires { 33 ≤ length bench.now }
     ensures { result ≡ each 8 (λ k. is_place (part_of k nets.now) (waiting_of k bench.now) (part_of k queues.now)) }
 {
-    let mut k: usize = 0;
-    while k < 8 {
-        if !is_place(net_of(nets, k), waiting(bench, k), queue_of(queues, k)) {
+    for k in 0..8 {
+        if !is_place(part_of(nets, k), waiting(bench, k), part_of(queues, k)) {
             return false;
         }
-        k += 1;
     }
     true
 }

@@ -2,6 +2,8 @@
 ghost use Rattle.std.specs.Prelude.{◌≡◌, ◌+◌, ◌*◌, ◌<◌, ◌≤◌, length};
 ghost use Rattle.bench_turns.specs.Parts.{part_of, with_part, placed, shifted};
 
+use crate::places::bounds;
+
 // How many bytes a slot has: a cycle has at most 64.
 pub(crate) const SLOT: usize = 64;
 
@@ -11,11 +13,7 @@ fn place(queue: &mut [u8], n: usize, cycle: &[u8])
     ensures { queue.new ≡ placed n cycle.now queue.old }
 {
     let at = SLOT * n;
-    let mut i: usize = 0;
-    while i < cycle.len() {
-        queue[at + i] = cycle[i];
-        i += 1;
-    }
+    queue[at..at + cycle.len()].copy_from_slice(cycle);
 }
 
 // The n cycles that wait behind the oldest move one slot forward.
@@ -24,11 +22,7 @@ fn shift(queue: &mut [u8], n: usize)
     ensures { queue.new ≡ shifted n queue.old }
 {
     let end = SLOT * n;
-    let mut i: usize = 0;
-    while i < end {
-        queue[i] = queue[i + SLOT];
-        i += 1;
-    }
+    queue.copy_within(SLOT..SLOT + end, 0);
 }
 
 // A new cycle for machine k, behind the n that wait for it.
@@ -37,9 +31,7 @@ pub(crate) fn queue_up(queues: &mut [u8], k: usize, n: usize, cycle: &[u8])
     requires cycle_in_bounds { 64 * n + length cycle.now ≤ length (part_of k queues.old) }
     ensures { queues.new ≡ with_part k (placed n cycle.now (part_of k queues.old)) queues.old }
 {
-    let width = queues.len() / 8;
-    let at = k * width;
-    let end = at + width;
+    let (at, end) = bounds(queues.len(), k);
     place(&mut queues[at..end], n, cycle);
 }
 
@@ -49,8 +41,6 @@ pub(crate) fn move_up(queues: &mut [u8], k: usize, n: usize)
     requires n_in_bounds { 64 * n + 64 ≤ length (part_of k queues.old) }
     ensures { queues.new ≡ with_part k (shifted n (part_of k queues.old)) queues.old }
 {
-    let width = queues.len() / 8;
-    let at = k * width;
-    let end = at + width;
+    let (at, end) = bounds(queues.len(), k);
     shift(&mut queues[at..end], n);
 }

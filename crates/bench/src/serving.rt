@@ -1,31 +1,18 @@
 // A turn that is not idle: the machine is stepped with its oldest cycle, which frees its place.
-ghost use Rattle.std.specs.Prelude.{◌≡◌, true, ◌-◌, ◌*◌, ◌<◌, ◌≤◌, length};
+ghost use Rattle.std.specs.Prelude.{◌≡◌, true, false, ◌-◌, ◌*◌, ◌<◌, ◌≤◌, length};
 ghost use Rattle.simulator.specs.Step.{step_of};
 ghost use Rattle.bench_turns.specs.Parts.{part_of, with_part, shifted};
 ghost use Rattle.bench_turns.specs.Numbers.{waiting_of, with_waiting, with_tally, with_last, is_bench};
-ghost use Rattle.bench_turns.specs.Refusals.{next_machine};
+ghost use Rattle.bench_turns.specs.Refusals.{next_machine, is_idle};
 ghost use Rattle.bench_turns.specs.Turn.{step_for, turn_end, turn_of};
-ghost use Rattle.bench.specs.Private.Causes.{cause_of};
 
 use crate::numbers::{served, tally, waiting};
-use crate::places::{net_of, queue_of};
+use crate::places::{bounds, part_of};
 use crate::queues::move_up;
-use bench_turns::{Cause, Turned};
-use calls::{INPUTS, Tally, header};
-use simulator::{StepOutcome, Stepped, step};
-
-// Why a turn is refused whose machine's step is. On a bench no other cause is left.
-fn cause_of(cause: calls::Cause) -> Cause
-    ensures { result ≡ cause_of cause }
-{
-    match cause {
-        calls::Cause::TraceTooLong => Cause::NotBench,
-        calls::Cause::ShortBuffer => Cause::ShortBuffer,
-        calls::Cause::WrongLine(_) => Cause::NotBench,
-        calls::Cause::NotNetlist => Cause::NotBench,
-        calls::Cause::FullTally => Cause::FullTally,
-    }
-}
+use bench_turns::Cause;
+use calls::Tally;
+use netlist::Header;
+use simulator::{Stepped, step};
 
 // A step with the latch words of machine k.
 fn step_part(
@@ -39,9 +26,7 @@ fn step_part(
     requires { k < 8 }
     ensures { (result ≡ (step_of net.now cycle.now (part_of k latches.old) values.old tally).answer) × (latches.new ≡ with_part k (step_of net.now cycle.now (part_of k latches.old) values.old tally).latches latches.old) × (values.new ≡ (step_of net.now cycle.now (part_of k latches.old) values.old tally).values) }
 {
-    let width = latches.len() / 8;
-    let at = k * width;
-    let end = at + width;
+    let (at, end) = bounds(latches.len(), k);
     step(net, cycle, &mut latches[at..end], values, tally)
 }
 
@@ -58,9 +43,9 @@ fn step_machine(
     requires bench_value { is_bench nets.now queues.now bench.now ≡ true }
     ensures { (result ≡ (step_for k nets.now latches.old values.old queues.now bench.now).answer) × (latches.new ≡ with_part k (step_for k nets.now latches.old values.old queues.now bench.now).latches latches.old) × (values.new ≡ (step_for k nets.now latches.old values.old queues.now bench.now).values) }
 {
-    let net = net_of(nets, k);
-    let queue = queue_of(queues, k);
-    let inputs = header(net, INPUTS);
+    let net = part_of(nets, k);
+    let queue = part_of(queues, k);
+    let inputs = Header::of(net).inputs as usize;
     step_part(net, &queue[..inputs], latches, values, k, tally(bench, k))
 }
 
@@ -82,18 +67,13 @@ pub(crate) fn serve(
     queues: &mut [u8],
     bench: &mut [u32],
     k: usize,
-) -> Turned
-    requires k_bound { (k < 8) × (k ≡ next_machine bench.old) }
+) -> Result<Option<(u32, u64, u64)>, Cause>
+    requires k_next { (k ≡ next_machine bench.old) × (is_idle bench.old ≡ false) }
     requires bench_value { is_bench nets.now queues.old bench.old ≡ true }
     ensures { turn_end result latches.new values.new queues.new bench.new ≡ turn_of nets.now latches.old values.old queues.old bench.old }
 {
     let stepped = step_machine(nets, latches, values, queues, bench, k);
-    let outcome = stepped.outcome;
-    match outcome {
-        StepOutcome::Refused(cause) => Turned::Refused(cause_of(cause)),
-        StepOutcome::Output(word, checked) => {
-            leave(queues, bench, k, stepped.tally);
-            Turned::Served(k as u32, word, checked)
-        }
-    }
+    let (word, checked) = stepped.outcome?;
+    leave(queues, bench, k, stepped.tally);
+    Ok(Some((k as u32, word, checked)))
 }

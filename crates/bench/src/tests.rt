@@ -4,10 +4,11 @@ ghost use Rattle.bench_turns.specs.Numbers.{is_bench};
 ghost use Rattle.bench_turns.specs.Refusals.{add_check};
 
 use crate::numbers::{tally, waiting};
-use crate::places::{MAX_WAITING, is_bench, net_of};
+use crate::places::{MAX_WAITING, is_bench, part_of};
 use crate::queues::SLOT;
-use bench_turns::{Cause, Tested};
-use calls::{INPUTS, LATCHES, has_room, header};
+use bench_turns::Cause;
+use calls::has_room;
+use netlist::Header;
 use trace::is_cycle;
 
 // The tests of a new cycle for machine k of a bench.
@@ -18,29 +19,30 @@ fn machine_check(
     bench: &[u32],
     k: usize,
     cycle: &[u8],
-) -> Tested
+) -> Result<(), Cause>
     requires k_bound { k < 8 }
     requires bench_value { is_bench nets.now queues.now bench.now ≡ true }
     ensures { result ≡ add_check nets.now latches.now queues.now bench.now k cycle.now }
 {
-    let net = net_of(nets, k);
+    let net = part_of(nets, k);
     let n = waiting(bench, k) as usize;
     if n >= MAX_WAITING {
-        return Tested::Failed(Cause::FullQueue);
+        return Err(Cause::FullQueue);
     }
-    if !is_cycle(header(net, INPUTS), cycle) {
-        return Tested::Failed(Cause::WrongCycle);
+    let header = Header::of(net);
+    if !is_cycle(header.inputs as usize, cycle) {
+        return Err(Cause::WrongCycle);
     }
-    if latches.len() / 8 < header(net, LATCHES) {
-        return Tested::Failed(Cause::ShortBuffer);
+    if latches.len() / 8 < header.latches as usize {
+        return Err(Cause::ShortBuffer);
     }
     if queues.len() / 8 < SLOT * (n + 1) {
-        return Tested::Failed(Cause::ShortBuffer);
+        return Err(Cause::ShortBuffer);
     }
     if !has_room(tally(bench, k), n + 1) {
-        return Tested::Failed(Cause::FullTally);
+        return Err(Cause::FullTally);
     }
-    Tested::Passed
+    Ok(())
 }
 
 // The tests of a new cycle.
@@ -51,14 +53,14 @@ pub(crate) fn add_check(
     bench: &[u32],
     machine: u32,
     cycle: &[u8],
-) -> Tested
+) -> Result<(), Cause>
     ensures { result ≡ add_check nets.now latches.now queues.now bench.now machine cycle.now }
 {
     if machine > 7 {
-        return Tested::Failed(Cause::NoMachine);
+        return Err(Cause::NoMachine);
     }
     if !is_bench(nets, queues, bench) {
-        return Tested::Failed(Cause::NotBench);
+        return Err(Cause::NotBench);
     }
     machine_check(nets, latches, queues, bench, machine as usize, cycle)
 }

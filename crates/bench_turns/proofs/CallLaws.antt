@@ -1,4 +1,5 @@
 -- Laws of a call: what it does to each place. Assumes nothing.
+use Rattle.std.specs.Prelude.{Ok}
 use mathlib.Core.Path.{◌≡◌, refl, sym, ap, subst, ◌∙◌}
 use mathlib.Core.Bool.{Bool, true, false, cond}
 use mathlib.Core.List.{List, [], ◌∷◌}
@@ -11,7 +12,6 @@ use borrow.Author.Tests.{eqb-true, eqb-false}
 use Rattle.netlist.specs.Layout.{input_count}
 use Rattle.netlist.proofs.ValidLaws.{valid}
 use Rattle.assertion.specs.Graph.{Cycle}
-use Rattle.calls.specs.declared.refusal.Tested.TheVariants as calls
 use Rattle.calls.specs.declared.tally.Tally.{Tally}
 use Rattle.calls.specs.Refusals.{step_check}
 use Rattle.simulator.specs.Step.{StepEnd}
@@ -121,7 +121,7 @@ module _ (nets : List ℕ) (b : Bench) (values : List ℕ) (m : ℕ) (small : m 
       ).0
 
   -- the step on its parts is accepted
-  pub step_accepted : step_check net (first net place) (length place.latches) (length values) place.tally ≡ calls.Passed
+  pub step_accepted : step_check net (first net place) (length place.latches) (length values) place.tally ≡ Ok tt
   step_accepted =
       step_passes net (first net place) (length place.latches) (length values) place.tally
       (record { netlist = ready.netlist; bits = bits; latches = r.held; values = r.lent; room = r.room })

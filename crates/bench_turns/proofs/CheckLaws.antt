@@ -1,4 +1,5 @@
 -- Laws of the tests before a call: what holds where they all pass. Assumes nothing.
+use Rattle.std.specs.Prelude.{Result, Ok, Err}
 use mathlib.Core.Path.{◌≡◌, refl}
 use mathlib.Core.Bool.{Bool, true, false, cond, not, ◌&&◌}
 use mathlib.Core.List.{List}
@@ -19,11 +20,13 @@ use Rattle.bench_turns.specs.Parts.{part_of, cycles_in, are_cycles}
 use Rattle.bench_turns.specs.Numbers.{waiting_of, tally_of, last_of, is_place, is_bench}
 use Rattle.bench_turns.specs.declared.Cause.{Cause}
 use Rattle.bench_turns.specs.declared.Cause.TheVariants.{NoMachine, NotBench, FullQueue, WrongCycle, ShortBuffer, FullTally}
-use Rattle.bench_turns.specs.declared.Tested.{Tested}
-use Rattle.bench_turns.specs.declared.Tested.TheVariants.{Passed, Failed}
 use Rattle.bench_turns.specs.Refusals.{has_slot, add_check, next_machine, is_idle, turn_check}
 
-first : (a : Bool) (cause : Cause) (c : Tested) → cond (not a) (Failed cause) c ≡ Passed → (a ≡ true) × (c ≡ Passed)
+-- what a call answers that is not refused
+abbrev passes : Result Unit Cause
+passes = Ok tt
+
+first : (a : Bool) (cause : Cause) (c : Result Unit Cause) → cond (not a) (Err cause) c ≡ Ok tt → (a ≡ true) × (c ≡ Ok tt)
 first true cause c e = (refl, e)
 first false cause c e = let z : ◌≡◌ {A = ℕ} 0 1 = cc in absurd (omega arith)
 
@@ -95,7 +98,7 @@ pub record AddReady (nets latches queues bench : List ℕ) (k : ℕ) (cycle : Cy
   pub room : has_room (tally_of k bench) (waiting_of k bench + 1) ≡ true
 
 module _ (nets latches queues bench : List ℕ) (k : ℕ) (cycle : Cycle) where
-  pub add-passed : add_check nets latches queues bench k cycle ≡ Passed → AddReady nets latches queues bench k cycle
+  pub add-passed : add_check nets latches queues bench k cycle ≡ Ok tt → AddReady nets latches queues bench k cycle
   unfolding add_check has_latches has_slot
   add-passed e =
       let net = part_of k nets in
@@ -121,7 +124,7 @@ module _ (nets latches queues bench : List ℕ) (k : ℕ) (cycle : Cycle) where
       }
 
   -- a bench is not refused for being none
-  pub add-bench : is_bench nets queues bench ≡ true → add_check nets latches queues bench k cycle ≡ Failed NotBench → ⊥
+  pub add-bench : is_bench nets queues bench ≡ true → add_check nets latches queues bench k cycle ≡ Err NotBench → ⊥
   unfolding add_check
   add-bench ib e =
       let net = part_of k nets in
@@ -129,7 +132,7 @@ module _ (nets latches queues bench : List ℕ) (k : ℕ) (cycle : Cycle) where
       by (leb k 7) (leb (n + 1) 16) (is_cycle (input_count net) cycle) (has_latches net (length (part_of k latches)) && has_slot k queues bench) (has_room (tally_of k bench) (n + 1)) (rw ib at e)
     where
       by : (a b c d f : Bool)
-          → cond (not a) (Failed NoMachine) (cond (not b) (Failed FullQueue) (cond (not c) (Failed WrongCycle) (cond (not d) (Failed ShortBuffer) (cond (not f) (Failed FullTally) Passed)))) ≡ Failed NotBench
+          → cond (not a) (Err NoMachine) (cond (not b) (Err FullQueue) (cond (not c) (Err WrongCycle) (cond (not d) (Err ShortBuffer) (cond (not f) (Err FullTally) passes)))) ≡ Err NotBench
           → ⊥
       by false b c d f e = let z : ◌≡◌ {A = ℕ} 0 1 = cc in omega arith
       by true false c d f e = let z : ◌≡◌ {A = ℕ} 0 1 = cc in omega arith
@@ -158,11 +161,11 @@ module _ (nets latches values queues bench : List ℕ) where
   abbrev W : Bool
   W = leb (maximum net + 1) (length values)
 
-  pub turn_passed : turn_check nets latches values queues bench ≡ Passed → is_idle bench ≡ false → TurnReady k nets latches values queues bench
+  pub turn_passed : turn_check nets latches values queues bench ≡ Ok tt → is_idle bench ≡ false → TurnReady k nets latches values queues bench
   unfolding turn_check has_latches has_values
   turn_passed e idle =
       let a = first (is_bench nets queues bench) NotBench _ e in
-      let b = first (H && W) ShortBuffer (cond (not (has_room (tally_of k bench) 1)) (Failed FullTally) Passed) (rw idle at a.1) in
+      let b = first (H && W) ShortBuffer (cond (not (has_room (tally_of k bench) 1)) (Err FullTally) passes) (rw idle at a.1) in
       let c = first (has_room (tally_of k bench) 1) FullTally _ b.1 in
       let hv = both H W b.0 in
       record {
@@ -174,24 +177,24 @@ module _ (nets latches values queues bench : List ℕ) where
 
   -- a turn of a bench that is not idle, with latch words and room, is refused for short value words only
   short-busy : latch_count net ≤ length (part_of k latches) → has_room (tally_of k bench) 1 ≡ true → (cause : Cause)
-      → cond (not (has_latches net (length (part_of k latches)) && has_values net (length values))) (Failed ShortBuffer) (cond (not (has_room (tally_of k bench) 1)) (Failed FullTally) Passed) ≡ Failed cause
+      → cond (not (has_latches net (length (part_of k latches)) && has_values net (length values))) (Err ShortBuffer) (cond (not (has_room (tally_of k bench) 1)) (Err FullTally) passes) ≡ Err cause
       → (cause ≡ ShortBuffer) × (length values < maximum net + 1)
   unfolding has_latches has_values
   short-busy l rm cause e = by W refl (rw (le-leb (latch_count net) (length (part_of k latches)) l, rm) at e)
     where
-      by : (v : Bool) → W ≡ v → cond (not v) (Failed ShortBuffer) Passed ≡ Failed cause → (cause ≡ ShortBuffer) × (length values < maximum net + 1)
+      by : (v : Bool) → W ≡ v → cond (not v) (Err ShortBuffer) passes ≡ Err cause → (cause ≡ ShortBuffer) × (length values < maximum net + 1)
       by true is f = let z : ◌≡◌ {A = ℕ} 0 1 = cc in absurd (omega arith)
       by false is f = ((cc), leb-false (maximum net + 1) (length values) is)
 
   pub turn_short : is_bench nets queues bench ≡ true
       → (is_idle bench ≡ false → (latch_count net ≤ length (part_of k latches)) × (has_room (tally_of k bench) 1 ≡ true))
-      → (cause : Cause) → turn_check nets latches values queues bench ≡ Failed cause
+      → (cause : Cause) → turn_check nets latches values queues bench ≡ Err cause
       → (cause ≡ ShortBuffer) × (is_idle bench ≡ false) × (length values < maximum net + 1)
   unfolding turn_check
   turn_short ib busy cause e = by (is_idle bench) refl (rw ib at e)
     where
       by : (i : Bool) → is_idle bench ≡ i
-          → cond i Passed (cond (not (has_latches net (length (part_of k latches)) && has_values net (length values))) (Failed ShortBuffer) (cond (not (has_room (tally_of k bench) 1)) (Failed FullTally) Passed)) ≡ Failed cause
+          → cond i passes (cond (not (has_latches net (length (part_of k latches)) && has_values net (length values))) (Err ShortBuffer) (cond (not (has_room (tally_of k bench) 1)) (Err FullTally) passes)) ≡ Err cause
           → (cause ≡ ShortBuffer) × (i ≡ false) × (length values < maximum net + 1)
       by true is f = let z : ◌≡◌ {A = ℕ} 0 1 = cc in absurd (omega arith)
       by false is f = let s = short-busy (busy is).0 (busy is).1 cause f in (s.0, refl, s.1)

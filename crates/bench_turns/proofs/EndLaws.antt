@@ -1,4 +1,6 @@
 -- Laws of a whole call: how it can end, and what each end does to every place. Assumes nothing.
+use Rattle.std.specs.Prelude.{Option, Some, None, Err, Result, Ok}
+use Rattle.calls.specs.declared.refusal.Cause.{Cause as CallCause}
 use mathlib.Core.Path.{◌≡◌, refl, sym, ap, ap₂, ◌∙◌}
 use mathlib.Core.Bool.{Bool, true, false}
 use mathlib.Core.List.{List, []}
@@ -7,20 +9,12 @@ use native.Mathlib.Omega.{arith}
 use lib.Dec.{eqb}
 use lib.ListN.{length, drop}
 use Rattle.assertion.specs.Graph.{Cycle}
-use Rattle.simulator.specs.declared.outcome.StepOutcome.{StepOutcome}
-use Rattle.simulator.specs.declared.outcome.StepOutcome.TheVariants as step
 use Rattle.simulator.specs.Step.{StepEnd}
 use Rattle.simulator.proofs.StepLaws.{step_is}
 use Rattle.demand.specs.Calls as demand
 use Rattle.bench_turns.specs.Parts.{width, part_of, shifted}
 use Rattle.bench_turns.specs.Numbers.{waiting_of, tally_of, last_of}
 use Rattle.bench_turns.specs.declared.Cause.{Cause}
-use Rattle.bench_turns.specs.declared.Tested.{Tested}
-use Rattle.bench_turns.specs.declared.Tested.TheVariants.{Passed, Failed}
-use Rattle.bench_turns.specs.declared.Added.{Added}
-use Rattle.bench_turns.specs.declared.Added.TheVariants as added
-use Rattle.bench_turns.specs.declared.Turned.{Turned}
-use Rattle.bench_turns.specs.declared.Turned.TheVariants as turned
 use Rattle.bench_turns.specs.Refusals.{add_check, next_machine, is_idle, turn_check}
 use Rattle.bench_turns.specs.Add.{AddEnd, add_end, add_as, add_of}
 use Rattle.bench_turns.specs.Turn.{TurnEnd, turn_end, oldest, first_word, second_word, step_for, serve, turn_as, turn_of}
@@ -52,16 +46,16 @@ module _ (nets : List ℕ) (b : Bench) (m : ℕ) (c : Cycle) where
   add_after e = record { latches = b.latches; queues = e.queues; numbers = e.bench }
 
   pub data AddCase : AddEnd → Type 0 where
-    declined : (cause : Cause) → add_check nets b.latches b.queues b.numbers m c ≡ Failed cause → AddCase (add_end (added.Refused cause) b.queues b.numbers)
-    joined : (r : AddReady nets b.latches b.queues b.numbers m c) → AddCase (add_end added.Waiting (grown_bench nets b m c r).queues (grown_bench nets b m c r).numbers)
+    declined : (cause : Cause) → add_check nets b.latches b.queues b.numbers m c ≡ Err cause → AddCase (add_end (Err cause) b.queues b.numbers)
+    joined : (r : AddReady nets b.latches b.queues b.numbers m c) → AddCase (add_end (Ok tt) (grown_bench nets b m c r).queues (grown_bench nets b m c r).numbers)
 
   pub add_case : AddCase (add_on nets b m c)
   unfolding add_of add_as
   add_case = by (add_check nets b.latches b.queues b.numbers m c) refl
     where
-      by : (t : Tested) → add_check nets b.latches b.queues b.numbers m c ≡ t → AddCase (add_as t b.queues b.numbers m c)
-      by Passed e = joined (add-passed nets b.latches b.queues b.numbers m c e)
-      by (Failed cause) e = declined cause e
+      by : (t : Result Unit Cause) → add_check nets b.latches b.queues b.numbers m c ≡ t → AddCase (add_as t b.queues b.numbers m c)
+      by (Ok tt) e = joined (add-passed nets b.latches b.queues b.numbers m c e)
+      by (Err cause) e = declined cause e
 
   pub add_change : (e : AddEnd) → AddCase e → (k : ℕ) → k < 8 → Change (part_of k nets) (place_of k b) (place_of k (add_after e)) [] (arrived_as e.answer m k c)
   unfolding arrived_as
@@ -85,11 +79,11 @@ module _ (nets : List ℕ) (b : Bench) (m : ℕ) (c : Cycle) where
         queues = part-rest m p b.queues r.machine l;
       }
 
-  pub add-refused : (e : AddEnd) → AddCase e → (cause : Cause) → e.answer ≡ added.Refused cause
-      → (add_check nets b.latches b.queues b.numbers m c ≡ Failed cause) × (e ≡ add_end (added.Refused cause) b.queues b.numbers)
+  pub add-refused : (e : AddEnd) → AddCase e → (cause : Cause) → e.answer ≡ Err cause
+      → (add_check nets b.latches b.queues b.numbers m c ≡ Err cause) × (e ≡ add_end (Err cause) b.queues b.numbers)
   add-refused e (declined other f) cause is =
       let same : other ≡ cause = cc in
-      (f ∙ ap Failed same, ap (λ (z : Added). add_end z b.queues b.numbers) is)
+      (f ∙ ap Err same, ap (λ (z : Result Unit Cause). add_end z b.queues b.numbers) is)
   add-refused e (joined r) cause is = let z : ◌≡◌ {A = ℕ} 0 1 = cc in absurd (omega arith)
 
 -- ---- how a turn can end
@@ -107,52 +101,53 @@ module _ (nets : List ℕ) (b : Bench) (values : List ℕ) where
     pub ready : TurnReady next nets b.latches values b.queues b.numbers
 
   pub data TurnCase : TurnEnd → Type 0 where
-    idles : is_idle b.numbers ≡ true → TurnCase (turn_end turned.Idle b.latches values b.queues b.numbers)
-    refuses : (cause : Cause) → turn_check nets b.latches values b.queues b.numbers ≡ Failed cause → TurnCase (turn_end (turned.Refused cause) b.latches values b.queues b.numbers)
+    idles : is_idle b.numbers ≡ true → TurnCase (turn_end (Ok None) b.latches values b.queues b.numbers)
+    refuses : (cause : Cause) → turn_check nets b.latches values b.queues b.numbers ≡ Err cause → TurnCase (turn_end (Err cause) b.latches values b.queues b.numbers)
     serves : Serving → TurnCase (serve next nets b.latches values b.queues b.numbers)
 
   pub turn_case : TurnCase (turn_on nets b values)
   unfolding turn_of turn_as
   turn_case = by (turn_check nets b.latches values b.queues b.numbers) refl (is_idle b.numbers) refl
     where
-      by : (t : Tested) → turn_check nets b.latches values b.queues b.numbers ≡ t → (i : Bool) → is_idle b.numbers ≡ i
+      by : (t : Result Unit Cause) → turn_check nets b.latches values b.queues b.numbers ≡ t → (i : Bool) → is_idle b.numbers ≡ i
           → TurnCase (turn_as t i nets b.latches values b.queues b.numbers)
-      by (Failed cause) e i f = refuses cause e
-      by Passed e true f = idles f
-      by Passed e false f =
+      by (Err cause) e i f = refuses cause e
+      by (Ok tt) e true f = idles f
+      by (Ok tt) e false f =
           let n = next-is b.numbers f in
           serves (record { busy = f; machine = n.machine; waiting = waits-some next b.numbers n.waiting; ready = turn_passed nets b.latches values b.queues b.numbers e f })
 
-  abbrev outcome : ℕ → StepOutcome
+  abbrev outcome : ℕ → Result (ℕ × ℕ) CallCause
   outcome m = (step_for m nets b.latches values b.queues b.numbers).answer.outcome
 
   pub record ServedSo (m w c : ℕ) (e : TurnEnd) : Type 0 where
     pub is-next : next ≡ m
     pub serving : Serving
-    pub words : (step_for m nets b.latches values b.queues b.numbers).answer.outcome ≡ step.Output w c
+    pub words : (step_for m nets b.latches values b.queues b.numbers).answer.outcome ≡ Ok (w, c)
     pub last : last_of e.bench ≡ m
     pub frees : waiting_of m e.bench + 1 ≡ waiting_of m b.numbers
 
   module _ (s : Serving) where
-    served-words : outcome next ≡ step.Output (first_word (outcome next)) (second_word (outcome next))
+    served-words : outcome next ≡ Ok (first_word (outcome next), second_word (outcome next))
     unfolding step_for oldest first_word second_word
     served-words =
         let e = step_is (part_of next nets) (oldest next nets b.queues) (part_of next b.latches) values (tally_of next b.numbers) (step_accepted nets b values next s.machine s.waiting s.ready) in
-        ap (λ (z : StepEnd). z.answer.outcome) (sym e) ∙ ap (λ (z : StepEnd). step.Output (first_word z.answer.outcome) (second_word z.answer.outcome)) e
+        ap (λ (z : StepEnd). z.answer.outcome) (sym e) ∙ ap (λ (z : StepEnd). Ok (first_word z.answer.outcome, second_word z.answer.outcome)) e
 
-    served_so : (m w c : ℕ) → turned.Served next (first_word (outcome next)) (second_word (outcome next)) ≡ turned.Served m w c
+    served_so : (m w c : ℕ) → ◌≡◌ {A = Result (Option (ℕ × ℕ × ℕ)) Cause} (Ok (Some (next, first_word (outcome next), second_word (outcome next)))) (Ok (Some (m, w, c)))
         → ServedSo m w c (serve next nets b.latches values b.queues b.numbers)
     unfolding serve step_for oldest
     served_so m w c is =
-        let a : next ≡ m = cc in
-        let u : first_word (outcome next) ≡ w = cc in
-        let v : second_word (outcome next) ≡ c = cc in
+        let p : ◌≡◌ {A = ℕ × ℕ × ℕ} (next, first_word (outcome next), second_word (outcome next)) (m, w, c) = cc in
+        let a = ap (λ (q : ℕ × ℕ × ℕ). q.0) p in
+        let u = ap (λ (q : ℕ × ℕ × ℕ). q.1) p in
+        let v = ap (λ (q : ℕ × ℕ × ℕ). q.2) p in
         let n = moved_waiting nets b values next s.machine s.waiting s.ready in
         let some = s.waiting in
         record {
           is-next = a;
           serving = s;
-          words = rw (← a) (served-words ∙ ap₂ step.Output u v);
+          words = rw (← a) (served-words ∙ ap₂ (λ (x y : ℕ). Ok (x, y)) u v);
           last = moved_last nets b values next s.machine s.waiting s.ready ∙ a;
           frees = rw (← a) (rw n (omega arith));
         }
@@ -191,22 +186,22 @@ module _ (nets : List ℕ) (b : Bench) (values : List ℕ) where
         queues = part-rest next (shifted n (part_of next b.queues)) b.queues s.machine q;
       }
 
-  pub turn_refused : (e : TurnEnd) → TurnCase e → (cause : Cause) → e.answer ≡ turned.Refused cause
-      → (turn_check nets b.latches values b.queues b.numbers ≡ Failed cause) × (e ≡ turn_end (turned.Refused cause) b.latches values b.queues b.numbers)
+  pub turn_refused : (e : TurnEnd) → TurnCase e → (cause : Cause) → e.answer ≡ Err cause
+      → (turn_check nets b.latches values b.queues b.numbers ≡ Err cause) × (e ≡ turn_end (Err cause) b.latches values b.queues b.numbers)
   unfolding serve
   turn_refused e (idles i) cause is = let z : ◌≡◌ {A = ℕ} 0 1 = cc in absurd (omega arith)
   turn_refused e (refuses other f) cause is =
       let same : other ≡ cause = cc in
-      (f ∙ ap Failed same, ap (λ (z : Turned). turn_end z b.latches values b.queues b.numbers) is)
+      (f ∙ ap Err same, ap (λ (z : Result (Option (ℕ × ℕ × ℕ)) Cause). turn_end z b.latches values b.queues b.numbers) is)
   turn_refused e (serves s) cause is = let z : ◌≡◌ {A = ℕ} 0 1 = cc in absurd (omega arith)
 
-  pub turn_idle : (e : TurnEnd) → TurnCase e → e.answer ≡ turned.Idle → (is_idle b.numbers ≡ true) × (e ≡ turn_end turned.Idle b.latches values b.queues b.numbers)
+  pub turn_idle : (e : TurnEnd) → TurnCase e → e.answer ≡ Ok None → (is_idle b.numbers ≡ true) × (e ≡ turn_end (Ok None) b.latches values b.queues b.numbers)
   unfolding serve
   turn_idle e (idles i) is = (i, refl)
   turn_idle e (refuses cause f) is = let z : ◌≡◌ {A = ℕ} 0 1 = cc in absurd (omega arith)
   turn_idle e (serves s) is = let z : ◌≡◌ {A = ℕ} 0 1 = cc in absurd (omega arith)
 
-  pub turn_served : (e : TurnEnd) → TurnCase e → (m w c : ℕ) → e.answer ≡ turned.Served m w c → ServedSo m w c e
+  pub turn_served : (e : TurnEnd) → TurnCase e → (m w c : ℕ) → e.answer ≡ Ok (Some (m, w, c)) → ServedSo m w c e
   unfolding serve
   turn_served e (idles i) m w c is = let z : ◌≡◌ {A = ℕ} 0 1 = cc in absurd (omega arith)
   turn_served e (refuses cause f) m w c is = let z : ◌≡◌ {A = ℕ} 0 1 = cc in absurd (omega arith)

@@ -1,8 +1,10 @@
 -- A new cycle and a turn in digits, for every input; and worked cases of the bench, computed. In these machine 0 has document 01's graph G (3 inputs, 2 latches, M = 12), the others
 -- the netlist of one vertex (1 input, no latch). 48 is `0`, 49 is `1`. The third number of a tally is carried. Assumes nothing.
+use Rattle.std.specs.Prelude.{Option, Some, None, Result, Ok, Err}
+use Rattle.bench_turns.specs.declared.Cause.{Cause}
 use mathlib.Core.Path.{◌≡◌, refl}
 use mathlib.Core.List.{List, [], ◌∷◌, ◌++◌}
-use Prim.Native.Nat.{ℕ, zero, suc, ◌+◌}
+use Prim.Native.Nat.{ℕ, zero, suc}
 use lib.ListN.{take, drop, set, replicate}
 use Rattle.text.specs.declared.Refusal.{Refusal}
 use Rattle.netlist.specs.Literals.{literal_of, variable_of, is_inverted}
@@ -17,10 +19,6 @@ use Rattle.simulator.specs.Step.{cycle_words, output_word, word_checked, latches
 use Rattle.bench_turns.specs.Parts.{part_of, with_part, cycles_in, are_cycles, placed, shifted}
 use Rattle.bench_turns.specs.Numbers.{waits, is_place, is_bench}
 use Rattle.bench_turns.specs.Refusals.{refusal_of, has_slot, add_check, next_from, next_machine, is_idle, turn_check}
-use Rattle.bench_turns.specs.declared.Added.{Added}
-use Rattle.bench_turns.specs.declared.Added.TheVariants as added
-use Rattle.bench_turns.specs.declared.Turned.{Turned}
-use Rattle.bench_turns.specs.declared.Turned.TheVariants as turned
 use Rattle.bench_turns.specs.Add.{add_end, add_as, add_of}
 use Rattle.bench_turns.specs.Turn.{turn_end, oldest, first_word, second_word, step_for, serve, turn_as, turn_of}
 use Rattle.bench_turns.specs.Session.{Call, add_call, turn_call, Bench, add_on, turn_on, after, after_all}
@@ -76,10 +74,10 @@ abbrev c010 : Cycle
 c010 = 48 ∷ 49 ∷ 48 ∷ []
 
 -- the machines served by the turns of a list of calls; 8 is idle, 9 refused
-abbrev machine_of : Turned → List ℕ → List ℕ
-machine_of turned.Idle ms = 8 ∷ ms
-machine_of (turned.Served m w c) ms = m ∷ ms
-machine_of (turned.Refused cause) ms = 9 ∷ ms
+abbrev machine_of : Result (Option (ℕ × ℕ × ℕ)) Cause → List ℕ → List ℕ
+machine_of (Ok None) ms = 8 ∷ ms
+machine_of (Ok (Some (m, w, c))) ms = m ∷ ms
+machine_of (Err cause) ms = 9 ∷ ms
 
 abbrev round : Bench → List Call → List ℕ
 round b [] = []
@@ -90,14 +88,14 @@ round b (turn_call v ∷ xs) = machine_of (turn_on nets b v).answer (round (afte
 abbrev no : ℕ → ℕ → Refusal
 no n l = record { number = n; line = l }
 
-abbrev of_add : Added → Refusal
-of_add added.Waiting = no 0 0
-of_add (added.Refused cause) = refusal_of cause
+abbrev of_add : Result Unit Cause → Refusal
+of_add (Ok tt) = no 0 0
+of_add (Err cause) = refusal_of cause
 
-abbrev of_turn : Turned → Refusal
-of_turn turned.Idle = no 0 0
-of_turn (turned.Served m w c) = no 0 0
-of_turn (turned.Refused cause) = refusal_of cause
+abbrev of_turn : Result (Option (ℕ × ℕ × ℕ)) Cause → Refusal
+of_turn (Ok None) = no 0 0
+of_turn (Ok (Some (m, w, c))) = no 0 0
+of_turn (Err cause) = refusal_of cause
 
 -- so many times the same call
 abbrev times : ℕ → Call → List Call
@@ -146,15 +144,15 @@ spoiled = set nets 189 2
 
 -- ---- every input: which number and line it is refused with, and that nothing changes then
 every-add : (nets : List ℕ) (b : Bench) (k : ℕ) (cycle : Cycle)
-    → AddTested nets b k cycle ((add_on nets b k cycle).answer ≡ added.Waiting)
-    (λ cause number line. (add_on nets b k cycle ≡ add_end (added.Refused cause) b.queues b.numbers) × (refusal_of cause ≡ no number line))
+    → AddTested nets b k cycle ((add_on nets b k cycle).answer ≡ Ok tt)
+    (λ cause number line. (add_on nets b k cycle ≡ add_end (Err cause) b.queues b.numbers) × (refusal_of cause ≡ no number line))
 unfolding add_of add_as
 every-add nets b k cycle = add_tested nets b k cycle _ _ (add-took nets b k cycle) (λ cause e. (rw e refl, refl))
 
 every_turn : (nets : List ℕ) (b : Bench) (values : List ℕ)
-    → TurnTested nets b values (turn_on nets b values ≡ turn_end turned.Idle b.latches values b.queues b.numbers)
-    (λ k. (w : ℕ) × (v : ℕ) × ((turn_on nets b values).answer ≡ turned.Served k w v))
-    (λ cause number line. (turn_on nets b values ≡ turn_end (turned.Refused cause) b.latches values b.queues b.numbers) × (refusal_of cause ≡ no number line))
+    → TurnTested nets b values (turn_on nets b values ≡ turn_end (Ok None) b.latches values b.queues b.numbers)
+    (λ k. (w : ℕ) × (v : ℕ) × ((turn_on nets b values).answer ≡ Ok (Some (k, w, v))))
+    (λ cause number line. (turn_on nets b values ≡ turn_end (Err cause) b.latches values b.queues b.numbers) × (refusal_of cause ≡ no number line))
 unfolding turn_of turn_as
 every_turn nets b values = turn_tested nets b values _ _ _ (λ e i. rw (e, i) refl) (turn_steps nets b values) (λ cause e. (rw e refl, refl))
 
@@ -166,7 +164,7 @@ every_rest = rest
 record Examples : Type 0 where
   -- 13.1: and nothing changes
   idle : after nets started t ≡ started
-  idle_said : (turn_on nets started values).answer ≡ turned.Idle
+  idle_said : (turn_on nets started values).answer ≡ Ok None
   -- 13.2: 0 comes first
   zero-first : round started (add1 5 ∷ add_call 0 c110 ∷ t ∷ t ∷ t ∷ []) ≡ 0 ∷ 5 ∷ 8 ∷ []
   -- 13.3: after 0 the next in the round is 3
@@ -217,14 +215,14 @@ record Examples : Type 0 where
   full-tally : of_turn (turn_on nets (bench (numbers (1 ∷ 0 ∷ 0 ∷ 4294967295 ∷ []) 7)) values).answer ≡ no 17 0
   short-first : of_turn (turn_on nets (bench (numbers (1 ∷ 0 ∷ 0 ∷ 4294967295 ∷ []) 7)) (replicate 13 0)).answer ≡ no 12 0
   -- 13.19: no words, no bytes, full tally, and idle; the last one served stays
-  idle_anyway : turn_on nets (record { latches = []; queues = []; numbers = all-full }) [] ≡ turn_end turned.Idle [] [] [] all-full
+  idle_anyway : turn_on nets (record { latches = []; queues = []; numbers = all-full }) [] ≡ turn_end (Ok None) [] [] [] all-full
   -- 13.20: 110 is rejected, and a rule at stake, in every lane; the freed slot keeps its bytes
-  served-word : (turn_on nets two_wait values).answer ≡ turned.Served 0 0 18446744073709551615
+  served-word : (turn_on nets two_wait values).answer ≡ Ok (Some (0, 0, 18446744073709551615))
   first_slot : take 3 (after nets two_wait t).queues ≡ 48 ∷ 49 ∷ 49 ∷ []
   freed_slot : take 3 (drop 64 (after nets two_wait t).queues) ≡ 48 ∷ 49 ∷ 49 ∷ []
   left_one : take 1 (after nets two_wait t).numbers ≡ 1 ∷ []
   -- longer buffers keep their surplus: netlists, latch words, value words, queues, numbers
-  surplus-serves : (turn_on (nets ++ (1 ∷ 2 ∷ 3 ∷ [])) surplus (replicate 15 6)).answer ≡ turned.Served 0 18446744073709551615 18446744073709551615
+  surplus-serves : (turn_on (nets ++ (1 ∷ 2 ∷ 3 ∷ [])) surplus (replicate 15 6)).answer ≡ Ok (Some (0, 18446744073709551615, 18446744073709551615))
   surplus-latches : drop 2 (turn_on (nets ++ (1 ∷ 2 ∷ 3 ∷ [])) surplus (replicate 15 6)).latches ≡ replicate 19 5
   surplus-values : drop 14 (turn_on (nets ++ (1 ∷ 2 ∷ 3 ∷ [])) surplus (replicate 15 6)).values ≡ 6 ∷ []
   surplus-numbers : drop 32 (turn_on (nets ++ (1 ∷ 2 ∷ 3 ∷ [])) surplus (replicate 15 6)).bench ≡ 0 ∷ 8 ∷ 9 ∷ []

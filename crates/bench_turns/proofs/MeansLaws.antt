@@ -1,4 +1,6 @@
 -- What a call says of its own answer. Assumes nothing.
+use Rattle.std.specs.Prelude.{Some, None, Ok, Err, Result}
+use Rattle.calls.specs.declared.refusal.Cause.{Cause as CallCause}
 use mathlib.Core.Path.{◌≡◌, refl, sym, ap, subst, ◌∙◌}
 use mathlib.Core.Bool.{true, false}
 use mathlib.Core.List.{List, ◌∷◌}
@@ -10,13 +12,8 @@ use Rattle.netlist.proofs.ValidLaws.{valid}
 use Rattle.assertion.specs.Graph.{Cycle}
 use Rattle.calls.specs.declared.tally.Tally.{Tally}
 use Rattle.trace.proofs.TraceLaws.{cycle-length}
-use Rattle.simulator.specs.declared.outcome.StepOutcome.{StepOutcome}
 use Rattle.simulator.specs.Step.{StepEnd, step_end}
 use Rattle.bench_turns.specs.declared.Cause.{Cause}
-use Rattle.bench_turns.specs.declared.Tested.{Tested}
-use Rattle.bench_turns.specs.declared.Tested.TheVariants.{Passed, Failed}
-use Rattle.bench_turns.specs.declared.Added.TheVariants as added
-use Rattle.bench_turns.specs.declared.Turned.TheVariants as turned
 use Rattle.bench_turns.specs.Parts.{part_of, cycles_in}
 use Rattle.bench_turns.specs.Numbers.{waiting_of}
 use Rattle.bench_turns.specs.Refusals.{refusal_of, add_check, next_machine, is_idle, turn_check}
@@ -52,26 +49,26 @@ module _ (nets : List ℕ) (b : Bench) (k : ℕ) (cycle : Cycle) where
         others = grown_other nets b k cycle r;
       }
 
-  abbrev check : Tested
+  abbrev check : Result Unit Cause
   check = add_check nets b.latches b.queues b.numbers k cycle
 
-  pub add-told : (cause : Cause) → check ≡ Failed cause → (add_on nets b k cycle).answer ≡ added.Refused cause
+  pub add-told : (cause : Cause) → check ≡ Err cause → (add_on nets b k cycle).answer ≡ Err cause
   unfolding add_of add_as
   add-told cause e = rw e refl
 
-  pub add-took : check ≡ Passed → (add_on nets b k cycle).answer ≡ added.Waiting
+  pub add-took : check ≡ Ok tt → (add_on nets b k cycle).answer ≡ Ok tt
   unfolding add_of add_as
   add-took e = rw e refl
 
   -- where `Waits` and `Refuses` say what is answered
   module _ (Waits : Type 0) (Refuses : ℕ → ℕ → Type 0) where
-    add-ends : (e : AddEnd) → AddCase nets b k cycle e → (e.answer ≡ added.Waiting → Waits) → (Waits → e.answer ≡ added.Waiting)
+    add-ends : (e : AddEnd) → AddCase nets b k cycle e → (e.answer ≡ Ok tt → Waits) → (Waits → e.answer ≡ Ok tt)
         → (Waits → Joins nets b k cycle (add_after nets b k cycle e)) × ((Waits → ⊥) → add_after nets b k cycle e ≡ b)
     add-ends e (declined cause f) took says = ((λ w. let s = says w in let z : ◌≡◌ {A = ℕ} 0 1 = cc in absurd (omega arith)), (λ n. refl))
     add-ends e (joined r) took says = ((λ w. joins_so r), (λ n. absurd (n (took refl))))
 
-    pub add-means : ((add_on nets b k cycle).answer ≡ added.Waiting → Waits) → (Waits → (add_on nets b k cycle).answer ≡ added.Waiting)
-        → ((cause : Cause) → (add_on nets b k cycle).answer ≡ added.Refused cause → Refuses (refusal_of cause).number (refusal_of cause).line)
+    pub add-means : ((add_on nets b k cycle).answer ≡ Ok tt → Waits) → (Waits → (add_on nets b k cycle).answer ≡ Ok tt)
+        → ((cause : Cause) → (add_on nets b k cycle).answer ≡ Err cause → Refuses (refusal_of cause).number (refusal_of cause).line)
         → AddMeans nets b k cycle Waits Refuses (after nets b (add_call k cycle))
     unfolding after
     add-means took says told =
@@ -84,7 +81,7 @@ module _ (nets : List ℕ) (b : Bench) (k : ℕ) (cycle : Cycle) where
 
 -- of add's own answer
 pub add_claims : (nets latches queues bench : List ℕ) (k : ℕ) (cycle : Cycle) (e : AddEnd) → e ≡ add_of nets latches queues bench k cycle
-    → AddMeans nets (bench_of latches queues bench) k cycle (e.answer ≡ added.Waiting) (AddRefuses e.answer) (bench_of latches e.queues e.bench)
+    → AddMeans nets (bench_of latches queues bench) k cycle (e.answer ≡ Ok tt) (AddRefuses e.answer) (bench_of latches e.queues e.bench)
     × KeepsBench nets (bench_of latches queues bench) (add_call k cycle) (bench_of latches e.queues e.bench)
 unfolding after
 add_claims nets latches queues bench k cycle e is =
@@ -92,7 +89,7 @@ add_claims nets latches queues bench k cycle e is =
     rw is (add-means nets b k cycle _ _ (λ w. w) (λ w. w) (λ cause t. (cause, t, refl)), keeps_bench nets b (add_call k cycle) _ refl)
 
 -- ---- a turn
-step_parts : (e : StepEnd) (o : StepOutcome) (t : Tally) (l v : List ℕ) → e.answer.outcome ≡ o → t ≡ e.answer.tally → l ≡ e.latches → v ≡ e.values
+step_parts : (e : StepEnd) (o : Result (ℕ × ℕ) CallCause) (t : Tally) (l v : List ℕ) → e.answer.outcome ≡ o → t ≡ e.answer.tally → l ≡ e.latches → v ≡ e.values
     → e ≡ step_end (record { outcome = o; tally = t }) l v
 step_parts e o t l v a b c d = rw (← a, b, c, d) refl
 
@@ -100,7 +97,7 @@ module _ (nets : List ℕ) (b : Bench) (values : List ℕ) where
   abbrev next : ℕ
   next = next_machine b.numbers
 
-  abbrev checked : Tested
+  abbrev checked : Result Unit Cause
   checked = turn_check nets b.latches values b.queues b.numbers
 
   abbrev end : TurnEnd
@@ -135,35 +132,35 @@ module _ (nets : List ℕ) (b : Bench) (values : List ℕ) where
         others = moved_other nets b values next s.machine s.waiting s.ready;
       })
 
-  pub turn_told : (cause : Cause) → checked ≡ Failed cause → (turn_on nets b values).answer ≡ turned.Refused cause
+  pub turn_told : (cause : Cause) → checked ≡ Err cause → (turn_on nets b values).answer ≡ Err cause
   unfolding turn_of turn_as
   turn_told cause e = rw e refl
 
-  pub turn_idles : checked ≡ Passed → is_idle b.numbers ≡ true → (turn_on nets b values).answer ≡ turned.Idle
+  pub turn_idles : checked ≡ Ok tt → is_idle b.numbers ≡ true → (turn_on nets b values).answer ≡ Ok None
   unfolding turn_of turn_as
   turn_idles e i = rw (e, i) refl
 
-  pub turn_steps : checked ≡ Passed → is_idle b.numbers ≡ false → (w : ℕ) × (v : ℕ) × ((turn_on nets b values).answer ≡ turned.Served next w v)
+  pub turn_steps : checked ≡ Ok tt → is_idle b.numbers ≡ false → (w : ℕ) × (v : ℕ) × ((turn_on nets b values).answer ≡ Ok (Some (next, w, v)))
   unfolding turn_of turn_as serve
   turn_steps e i = rw (e, i) (_, _, refl)
 
   -- where `Idles`, `Steps` and `Refuses` say what is answered
   module _ (Idles : Type 0) (Steps : ℕ → ℕ → ℕ → Type 0) (Refuses : ℕ → ℕ → Type 0) where
-    turn_kept : (e : TurnEnd) → TurnCase nets b values e → ((m w v : ℕ) → e.answer ≡ turned.Served m w v → Steps m w v)
+    turn_kept : (e : TurnEnd) → TurnCase nets b values e → ((m w v : ℕ) → e.answer ≡ Ok (Some (m, w, v)) → Steps m w v)
         → ((m w v : ℕ) → Steps m w v → ⊥) → (turn_after nets b values e ≡ b) × (e.values ≡ values)
     unfolding serve
     turn_kept e (idles i) steps n = (refl, refl)
     turn_kept e (refuses cause f) steps n = (refl, refl)
     turn_kept e (serves s) steps n = absurd (n _ _ _ (steps _ _ _ refl))
 
-    turn_serves : (e : TurnEnd) → TurnCase nets b values e → (m w v : ℕ) → e.answer ≡ turned.Served m w v → Serves nets b values m w v (turn_after nets b values e) e.values
+    turn_serves : (e : TurnEnd) → TurnCase nets b values e → (m w v : ℕ) → e.answer ≡ Ok (Some (m, w, v)) → Serves nets b values m w v (turn_after nets b values e) e.values
     turn_serves e (idles i) m w v is = let z : ◌≡◌ {A = ℕ} 0 1 = cc in absurd (omega arith)
     turn_serves e (refuses cause f) m w v is = let z : ◌≡◌ {A = ℕ} 0 1 = cc in absurd (omega arith)
     turn_serves e (serves s) m w v is = served_so s m w v (turn_served nets b values e (serves s) m w v is)
 
-    pub turn_means : ((turn_on nets b values).answer ≡ turned.Idle → Idles)
-        → ((m w v : ℕ) → (turn_on nets b values).answer ≡ turned.Served m w v → Steps m w v) → ((m w v : ℕ) → Steps m w v → (turn_on nets b values).answer ≡ turned.Served m w v)
-        → ((cause : Cause) → (turn_on nets b values).answer ≡ turned.Refused cause → Refuses (refusal_of cause).number (refusal_of cause).line)
+    pub turn_means : ((turn_on nets b values).answer ≡ Ok None → Idles)
+        → ((m w v : ℕ) → (turn_on nets b values).answer ≡ Ok (Some (m, w, v)) → Steps m w v) → ((m w v : ℕ) → Steps m w v → (turn_on nets b values).answer ≡ Ok (Some (m, w, v)))
+        → ((cause : Cause) → (turn_on nets b values).answer ≡ Err cause → Refuses (refusal_of cause).number (refusal_of cause).line)
         → TurnMeans nets b values Idles Steps Refuses (after nets b (turn_call values)) (turn_on nets b values).values
     unfolding after
     turn_means idle steps says told =
@@ -181,7 +178,7 @@ module _ (nets : List ℕ) (b : Bench) (values : List ℕ) where
 
 -- of turn's own answer
 pub turn_claims : (nets latches values queues bench : List ℕ) (e : TurnEnd) → e ≡ turn_of nets latches values queues bench
-    → TurnMeans nets (bench_of latches queues bench) values (e.answer ≡ turned.Idle) (λ m w v. e.answer ≡ turned.Served m w v) (TurnRefuses e.answer) (bench_of e.latches e.queues e.bench) e.values
+    → TurnMeans nets (bench_of latches queues bench) values (e.answer ≡ Ok None) (λ m w v. e.answer ≡ Ok (Some (m, w, v))) (TurnRefuses e.answer) (bench_of e.latches e.queues e.bench) e.values
     × KeepsBench nets (bench_of latches queues bench) (turn_call values) (bench_of e.latches e.queues e.bench)
 unfolding after
 turn_claims nets latches values queues bench e is =

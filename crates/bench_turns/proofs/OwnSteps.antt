@@ -1,4 +1,6 @@
 -- The turns that serve a machine as demand 3's calls: each is a step with the machine's oldest cycle. Assumes nothing.
+use Rattle.std.specs.Prelude.{Result, Ok, Err, Option, Some, None}
+use Rattle.bench_turns.specs.declared.Cause.{Cause}
 use mathlib.Core.Path.{◌≡◌, refl, ap, ap₂, ◌∙◌}
 use mathlib.Core.Bool.{Bool, true, false, cond}
 use mathlib.Core.List.{List, [], ◌∷◌, ◌++◌}
@@ -9,8 +11,6 @@ use Rattle.demand.specs.Calls as demand
 use Rattle.demand.specs.Calls.{Kept, called}
 use Rattle.bench_turns.specs.Parts.{part_of}
 use Rattle.bench_turns.specs.Numbers.{tally_of}
-use Rattle.bench_turns.specs.declared.Turned.{Turned}
-use Rattle.bench_turns.specs.declared.Turned.TheVariants as turned
 use Rattle.bench_turns.specs.Turn.{oldest}
 use Rattle.bench_turns.specs.Session.{Call, add_call, turn_call, Bench, turn_on, after, served_as, served_by, served}
 
@@ -19,10 +19,10 @@ unfoldable pub kept_of : ℕ → Bench → Kept
 kept_of k b = record { latches = part_of k b.latches; tally = tally_of k b.numbers }
 
 -- ---- its steps, in order
-unfoldable pub steps_as : Turned → ℕ → demand.Call → List demand.Call
-steps_as turned.Idle k step = []
-steps_as (turned.Served machine word checked) k step = cond (eqb machine k) (step ∷ []) []
-steps_as (turned.Refused cause) k step = []
+unfoldable pub steps_as : Result (Option (ℕ × ℕ × ℕ)) Cause → ℕ → demand.Call → List demand.Call
+steps_as (Ok None) k step = []
+steps_as (Ok (Some (machine, word, checked))) k step = cond (eqb machine k) (step ∷ []) []
+steps_as (Err cause) k step = []
 
 unfoldable pub steps_by : List ℕ → ℕ → Bench → Call → List demand.Call
 steps_by nets k b (add_call machine cycle) = []
@@ -45,15 +45,15 @@ cycles-append (demand.step_call c v ∷ a) b = ap (◌∷◌ c) (cycles-append a
 cycles-append (demand.run_call t v w ∷ a) b = cycles-append a b
 
 -- those of its steps are its served cycles
-served_as_lem : (r : Turned) (k : ℕ) (cycle values : List ℕ) → cycles_of (steps_as r k (demand.step_call cycle values)) ≡ served_as r k cycle
+served_as_lem : (r : Result (Option (ℕ × ℕ × ℕ)) Cause) (k : ℕ) (cycle values : List ℕ) → cycles_of (steps_as r k (demand.step_call cycle values)) ≡ served_as r k cycle
 unfolding steps_as served_as cycles_of
-served_as_lem turned.Idle k cycle values = refl
-served_as_lem (turned.Served m w c) k cycle values = by (eqb m k)
+served_as_lem (Ok None) k cycle values = refl
+served_as_lem (Ok (Some (m, w, c))) k cycle values = by (eqb m k)
   where
     by : (t : Bool) → cycles_of (cond t (demand.step_call cycle values ∷ []) []) ≡ cond t (cycle ∷ []) []
     by true = refl
     by false = refl
-served_as_lem (turned.Refused cause) k cycle values = refl
+served_as_lem (Err cause) k cycle values = refl
 
 one-served : (nets : List ℕ) (k : ℕ) (b : Bench) (x : Call) → cycles_of (steps_by nets k b x) ≡ served_by nets k b x
 unfolding steps_by served_by cycles_of

@@ -40,7 +40,7 @@ behind w at b p xs h l e =
 pub under : (k n w : ℕ) → k < n → k * w + w ≤ n * w
 under k n w h = rw (← suc-mul k w) (mul-le-mul_right w h)
 
-pub fits : (k : ℕ) (xs : List ℕ) → k < 8 → k * width xs + width xs ≤ length xs
+pub fits : {A : Type 0} (k : ℕ) (xs : List A) → k < 8 → k * width xs + width xs ≤ length xs
 fits k xs h = omega (arith, under k 8 (width xs) h)
 
 pub length_with : (k : ℕ) (p xs : List ℕ) → k < 8 → length p ≡ width xs → length (with_part k p xs) ≡ length xs

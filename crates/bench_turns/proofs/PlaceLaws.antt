@@ -1,4 +1,5 @@
 -- One place by itself: what a call does to it, and what that keeps. Assumes nothing.
+use Rattle.std.specs.Prelude.{Ok}
 use mathlib.Core.Path.{◌≡◌, refl, sym, ap, subst, ◌∙◌}
 use mathlib.Core.Bool.{true}
 use mathlib.Core.List.{List, [], ◌∷◌, ◌++◌, append-nil}
@@ -9,9 +10,7 @@ use Rattle.netlist.specs.Layout.{input_count, latch_count}
 use Rattle.netlist.specs.Valid.{is_netlist}
 use Rattle.netlist.proofs.ValidLaws.{valid}
 use Rattle.assertion.specs.Graph.{Cycle}
-use Rattle.calls.specs.declared.refusal.Tested.TheVariants as calls
 use Rattle.calls.specs.declared.tally.Tally.{Tally}
-use Rattle.simulator.specs.declared.outcome.StepOutcome.TheVariants.{Output}
 use Rattle.calls.specs.Tallies.{counted, has_room}
 use Rattle.trace.specs.Traces.{is_cycle}
 use Rattle.calls.specs.Refusals.{step_check}
@@ -64,7 +63,7 @@ pub data Change (net : List ℕ) : Place → Place → List demand.Call → List
   still : {p : Place} → Change net p p [] []
   grows : {p : Place} (c : Cycle) → is_cycle (input_count net) c ≡ true → p.waiting + 1 ≤ 16 → 64 * (p.waiting + 1) ≤ length p.queue → has_room p.tally (p.waiting + 1) ≡ true
       → Change net p (grown c p) [] (c ∷ [])
-  moves : {p : Place} (values : List ℕ) → 0 < p.waiting → step_check net (first net p) (length p.latches) (length values) p.tally ≡ calls.Passed
+  moves : {p : Place} (values : List ℕ) → 0 < p.waiting → step_check net (first net p) (length p.latches) (length values) p.tally ≡ Ok tt
       → Change net p (moved_to (step_in net values p) p) (demand.step_call (first net p) values ∷ []) []
 
 -- ---- order
@@ -99,7 +98,7 @@ module _ (net : List ℕ) where
 
   -- ---- what holds of a good place
   moved_good : (p : Place) (values : List ℕ) → 0 < p.waiting → Good net p → (e : StepEnd)
-      → step_end (record { outcome = Output (output_word net (first net p) p.latches) (word_checked net (first net p) p.latches); tally = counted p.tally (output_word net (first net p) p.latches) (word_checked net (first net p) p.latches) }) (latches_after net (first net p) p.latches) (values_after net (first net p) p.latches values) ≡ e
+      → step_end (record { outcome = Ok ((output_word net (first net p) p.latches), (word_checked net (first net p) p.latches)); tally = counted p.tally (output_word net (first net p) p.latches) (word_checked net (first net p) p.latches) }) (latches_after net (first net p) p.latches) (values_after net (first net p) p.latches values) ≡ e
       → Good net (moved_to e p)
   moved_good p values some g e is =
       let w = output_word net (first net p) p.latches in

@@ -1,4 +1,6 @@
 -- Whatever is called from eight starts with empty queues on, the bench keeps its claims. Assumes nothing.
+use Rattle.std.specs.Prelude.{None, Result, Ok, Err}
+use Rattle.calls.specs.declared.refusal.Cause.{Cause as CallCause}
 use mathlib.Core.Path.{◌≡◌, refl, sym, ap, ap₂, subst, ◌∙◌}
 use mathlib.Core.Bool.{Bool, true, false, cond, true≢false}
 use mathlib.Core.Logic.{◌⊎◌, inl, inr}
@@ -11,9 +13,6 @@ use borrow.Author.Tests.{eqb-false}
 use Rattle.netlist.specs.Layout.{latch_count, maximum}
 use Rattle.assertion.specs.Graph.{Graph, Cycle}
 use Rattle.assertion.specs.Paths.{count_rejected, count_checked}
-use Rattle.calls.specs.declared.refusal.Tested.{Tested}
-use Rattle.calls.specs.declared.refusal.Tested.TheVariants as calls
-use Rattle.simulator.specs.declared.outcome.StartOutcome.TheVariants.{Ready}
 use Rattle.calls.specs.declared.tally.Tally.{Tally}
 use Rattle.calls.specs.Tallies.{cleared, has_room}
 use Rattle.calls.proofs.TallyLaws.{room-one}
@@ -28,8 +27,6 @@ use Rattle.bench_turns.specs.Parts.{part_of, cycles_in, are_cycles}
 use Rattle.bench_turns.specs.Numbers.{waiting_of, tally_of, last_of, is_bench}
 use Rattle.bench_turns.specs.declared.Cause.{Cause}
 use Rattle.bench_turns.specs.declared.Cause.TheVariants.{NotBench, ShortBuffer}
-use Rattle.bench_turns.specs.declared.Added.TheVariants as added
-use Rattle.bench_turns.specs.declared.Turned.TheVariants as turned
 use Rattle.bench_turns.specs.Refusals.{next_machine}
 use Rattle.bench_turns.specs.Turn.{TurnEnd, oldest, serve}
 use Rattle.bench_turns.specs.Session.{Call, add_call, turn_call, Bench, add_on, turn_on, after, after_all, queue_of, arrived_by, arrived, served, accepted_as, accepted_by, accepted_turns}
@@ -89,15 +86,15 @@ module _ (nets : List ℕ) where
       })
 
   -- ---- eight starts
-  start-accepted : (net words : List ℕ) (t : Tally) → (start_of net words t).answer.outcome ≡ Ready → start_check net (length words) ≡ calls.Passed
+  start-accepted : (net words : List ℕ) (t : Tally) → (start_of net words t).answer.outcome ≡ Ok tt → start_check net (length words) ≡ Ok tt
   unfolding start_of start_as
   start-accepted net words t e = by (start_check net (length words)) refl e
     where
-      by : (k : Tested) → start_check net (length words) ≡ k → (start_as k net words t).answer.outcome ≡ Ready → start_check net (length words) ≡ calls.Passed
-      by calls.Passed is f = is
-      by (calls.Failed cause) is f = let z : ◌≡◌ {A = ℕ} 0 1 = cc in absurd (omega arith)
+      by : (k : Result Unit CallCause) → start_check net (length words) ≡ k → (start_as k net words t).answer.outcome ≡ Ok tt → start_check net (length words) ≡ Ok tt
+      by (Ok tt) is f = is
+      by (Err cause) is f = let z : ◌≡◌ {A = ℕ} 0 1 = cc in absurd (omega arith)
 
-  start-latches : (net words : List ℕ) (t : Tally) → start_check net (length words) ≡ calls.Passed
+  start-latches : (net words : List ℕ) (t : Tally) → start_check net (length words) ≡ Ok tt
       → (latch_count net ≤ length (start_of net words t).latches) × ((start_of net words t).answer.tally ≡ cleared)
   unfolding start_of start_as
   start-latches net words t e =
@@ -279,12 +276,12 @@ module _ (nets : List ℕ) (k : ℕ) (h : k < 8) where
   soon : (b : Bench) → GoodBench nets b → 0 < waiting_of k b.numbers → (xs : List Call) → 8 ≤ accepted_turns nets b xs → 0 < length (served nets k b xs)
   soon b g w xs l = subst (λ (z : List Cycle). 0 < length z) (steps-served nets k xs b) (fair xs b g w (omega arith))
 
-  busy : (b : Bench) → GoodBench nets b → 0 < waiting_of k b.numbers → (values : List ℕ) → (turn_on nets b values).answer ≡ turned.Idle → ⊥
+  busy : (b : Bench) → GoodBench nets b → 0 < waiting_of k b.numbers → (values : List ℕ) → (turn_on nets b values).answer ≡ Ok None → ⊥
   busy b g w values e =
       true≢false (sym (turn_idle nets b values (turn_on nets b values) (turn_case nets b values) e).0 ∙ not-idle b.numbers k h g.last (waits_so k b.numbers w))
 
 -- ---- what is refused
-short-only : (nets : List ℕ) (b : Bench) → GoodBench nets b → (values : List ℕ) (cause : Cause) → (turn_on nets b values).answer ≡ turned.Refused cause
+short-only : (nets : List ℕ) (b : Bench) → GoodBench nets b → (values : List ℕ) (cause : Cause) → (turn_on nets b values).answer ≡ Err cause
     → (k : ℕ) × (cause ≡ ShortBuffer) × IsNext k b.numbers × (length values < maximum (part_of k nets) + 1)
 short-only nets b g values cause e =
     let k = next_machine b.numbers in
@@ -299,7 +296,7 @@ short-only nets b g values cause e =
     cause r.0 in
     (k, s.0, next-told b.numbers g.last s.1, s.2)
 
-always_bench : (nets : List ℕ) (b : Bench) → GoodBench nets b → (k : ℕ) (cycle : Cycle) → (add_on nets b k cycle).answer ≡ added.Refused NotBench → ⊥
+always_bench : (nets : List ℕ) (b : Bench) → GoodBench nets b → (k : ℕ) (cycle : Cycle) → (add_on nets b k cycle).answer ≡ Err NotBench → ⊥
 always_bench nets b g k c e =
     add-bench nets b.latches b.queues b.numbers k c (good_ready nets b g) (add-refused nets b k c (add_on nets b k c) (add_case nets b k c) NotBench e).0
 

@@ -3,7 +3,7 @@
 use mathlib.Core.Path.{◌≡◌, refl, subst}
 use mathlib.Core.Bool.{true}
 use mathlib.Core.List.{List, [], ◌∷◌, ◌++◌}
-use Prim.Native.Nat.{ℕ, zero, suc, ◌+◌, ◌<◌}
+use Prim.Native.Nat.{ℕ, zero, suc, ◌<◌}
 use native.Mathlib.Omega.{arith}
 use lib.Dec.{lit≤, lit<}
 use lib.ListN.{length}
@@ -27,7 +27,7 @@ use Rattle.bench_turns.specs.Session.{Call, after_all, served}
 use Rattle.bench_turns.specs.Numbers.{tally_of}
 use Rattle.bench_turns.specs.Claims.{StartedPlace, Started, PathCount, BenchMeans}
 use Rattle.bench_turns.proofs.SessionLaws.{bench-means}
-use Rattle.bench_turns.proofs.Examples.{G, nets, started}
+use Rattle.bench_turns.proofs.Examples.{nets, started}
 
 abbrev two : List ℕ
 two = 0 ∷ 0 ∷ []

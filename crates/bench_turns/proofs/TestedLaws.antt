@@ -1,5 +1,6 @@
 -- Which new cycles and turns are taken, and for which cause, with which number and line, the others are refused, whatever
 -- was lent. `Taken`, `Idles`, `Steps` and `Refuses` are what a call says of its own answer. Assumes nothing.
+use Rattle.std.specs.Prelude.{Result, Ok, Err}
 use mathlib.Core.Path.{◌≡◌, refl, sym, ap, ◌∙◌}
 use mathlib.Core.Bool.{Bool, true, false}
 use mathlib.Core.List.{List}
@@ -18,8 +19,6 @@ use Rattle.calls.specs.Refusals.{has_latches, has_values}
 use Rattle.calls.proofs.TallyLaws.{room_fits, fits-room}
 use Rattle.bench_turns.specs.declared.Cause.{Cause}
 use Rattle.bench_turns.specs.declared.Cause.TheVariants.{NoMachine, NotBench, FullQueue, WrongCycle, ShortBuffer, FullTally}
-use Rattle.bench_turns.specs.declared.Tested.{Tested}
-use Rattle.bench_turns.specs.declared.Tested.TheVariants.{Passed, Failed}
 use Rattle.bench_turns.specs.Parts.{part_of, cycles_in, are_cycles}
 use Rattle.bench_turns.specs.Numbers.{waiting_of, tally_of, is_bench}
 use Rattle.bench_turns.specs.Refusals.{refusal_of, has_slot, add_check, next_machine, is_idle, turn_check}
@@ -110,10 +109,10 @@ module _ (nets : List ℕ) (b : Bench) (k : ℕ) (cycle : Cycle) (Taken : Type 0
     pub taken : MayWait nets b k cycle → latch_count net ≤ length (part_of k b.latches) → 64 * (n + 1) ≤ length (part_of k b.queues)
         → Fits (tally_of k b.numbers) (n + 1) → Taken
 
-  abbrev check : Tested
+  abbrev check : Result Unit Cause
   check = add_check nets b.latches b.queues b.numbers k cycle
 
-  pub add_tested : (check ≡ Passed → Taken) → ((cause : Cause) → check ≡ Failed cause → Refuses cause (refusal_of cause).number (refusal_of cause).line) → AddTested
+  pub add_tested : (check ≡ Ok tt → Taken) → ((cause : Cause) → check ≡ Err cause → Refuses cause (refusal_of cause).number (refusal_of cause).line) → AddTested
   unfolding refusal_of add_check has_latches has_slot
   add_tested took told =
       let is = is_bench_lem nets b in
@@ -143,11 +142,11 @@ module _ (nets : List ℕ) (b : Bench) (values : List ℕ) (Idles : Type 0) (Ste
     pub steps : (k : ℕ) → EightPlaces nets b → IsNext k b.numbers → latch_count (part_of k nets) ≤ length (part_of k b.latches) → maximum (part_of k nets) + 1 ≤ length values
         → Fits (tally_of k b.numbers) 1 → Steps k
 
-  abbrev checked : Tested
+  abbrev checked : Result Unit Cause
   checked = turn_check nets b.latches values b.queues b.numbers
 
-  pub turn_tested : (checked ≡ Passed → is_idle b.numbers ≡ true → Idles) → (checked ≡ Passed → is_idle b.numbers ≡ false → Steps (next_machine b.numbers))
-      → ((cause : Cause) → checked ≡ Failed cause → Refuses cause (refusal_of cause).number (refusal_of cause).line) → TurnTested
+  pub turn_tested : (checked ≡ Ok tt → is_idle b.numbers ≡ true → Idles) → (checked ≡ Ok tt → is_idle b.numbers ≡ false → Steps (next_machine b.numbers))
+      → ((cause : Cause) → checked ≡ Err cause → Refuses cause (refusal_of cause).number (refusal_of cause).line) → TurnTested
   unfolding refusal_of turn_check has_latches has_values
   turn_tested idle steps told =
       let is = is_bench_lem nets b in

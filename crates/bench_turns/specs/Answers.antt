@@ -1,18 +1,13 @@
 -- What a new cycle and a turn claim of their own answers, on any bench. What was answered is said by `Waits`, the cycle
 -- waits; `Idles`; `Steps m w v`, machine m was stepped, with output words w and v; `Refuses n l`, the call is refused with
 -- number n and line l. Assumes nothing.
-use Rattle.std.specs.Prelude.{◌≡◌, true, List, [], ◌∷◌, ◌++◌, ℕ, ◌+◌, ◌-◌, ◌*◌, ◌%◌, ◌<◌, ◌≤◌, length, take, drop}
+use Rattle.std.specs.Prelude.{Option, Result, Err, Ok, ◌≡◌, true, List, [], ◌∷◌, ◌++◌, ℕ, ◌+◌, ◌-◌, ◌*◌, ◌%◌, ◌<◌, ◌≤◌, length, take, drop}
 use Rattle.netlist.specs.Layout.{input_count}
 use Rattle.netlist.specs.Valid.{is_netlist}
 use Rattle.assertion.specs.Graph.{Cycle}
 use Rattle.trace.specs.Traces.{is_cycle}
-use Rattle.simulator.specs.declared.outcome.StepOutcome.TheVariants.{Output}
 use Rattle.simulator.specs.Step.{step_end, step_of}
 use Rattle.bench_turns.specs.declared.Cause.{Cause}
-use Rattle.bench_turns.specs.declared.Added.{Added}
-use Rattle.bench_turns.specs.declared.Added.TheVariants as added
-use Rattle.bench_turns.specs.declared.Turned.{Turned}
-use Rattle.bench_turns.specs.declared.Turned.TheVariants as turned
 use Rattle.bench_turns.specs.Parts.{part_of}
 use Rattle.bench_turns.specs.Numbers.{waiting_of, tally_of, last_of}
 use Rattle.bench_turns.specs.Refusals.{refusal_of}
@@ -76,7 +71,7 @@ pub record Serves (nets : List ℕ) (b : Bench) (values : List ℕ) (m w v : ℕ
   -- "A served cycle frees its place"
   pub frees : waiting_of m c.numbers + 1 ≡ waiting_of m b.numbers
   pub stepped : step_of (part_of m nets) cycle (part_of m b.latches) values (tally_of m b.numbers)
-      ≡ step_end (record { outcome = Output w v; tally = tally_of m c.numbers }) (part_of m c.latches) after
+      ≡ step_end (record { outcome = Ok (w, v); tally = tally_of m c.numbers }) (part_of m c.latches) after
   pub last : last_of c.numbers ≡ m
   pub others : (j : ℕ) → j < 8 → (j ≡ m → ⊥) → Untouched j b c
 
@@ -88,8 +83,8 @@ pub record TurnMeans (nets : List ℕ) (b : Bench) (values : List ℕ) (Idles : 
   pub kept : ((m w v : ℕ) → Steps m w v → ⊥) → (c ≡ b) × (after ≡ values)
 
 -- ---- what the answers of add and of turn say of a refusal
-abbrev pub AddRefuses : Added → ℕ → ℕ → Type 0
-AddRefuses r number line = (cause : Cause) × (r ≡ added.Refused cause) × (refusal_of cause ≡ record { number = number; line = line })
+abbrev pub AddRefuses : Result Unit Cause → ℕ → ℕ → Type 0
+AddRefuses r number line = (cause : Cause) × (r ≡ Err cause) × (refusal_of cause ≡ record { number = number; line = line })
 
-abbrev pub TurnRefuses : Turned → ℕ → ℕ → Type 0
-TurnRefuses r number line = (cause : Cause) × (r ≡ turned.Refused cause) × (refusal_of cause ≡ record { number = number; line = line })
+abbrev pub TurnRefuses : Result (Option (ℕ × ℕ × ℕ)) Cause → ℕ → ℕ → Type 0
+TurnRefuses r number line = (cause : Cause) × (r ≡ Err cause) × (refusal_of cause ≡ record { number = number; line = line })

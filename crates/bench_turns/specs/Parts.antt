@@ -5,11 +5,11 @@ use Rattle.trace.specs.Traces.{is_cycle}
 
 -- ---- parts
 -- a buffer is eight equal parts; a rest is no part
-abbrev pub width : List ℕ → ℕ
+abbrev pub width : {A : Type 0} → List A → ℕ
 width xs = length xs / 8
 
 -- part k, k from 0
-unfoldable pub part_of : ℕ → List ℕ → List ℕ
+unfoldable pub part_of : {A : Type 0} → ℕ → List A → List A
 part_of k xs = take (width xs) (drop (k * width xs) xs)
 
 -- the buffer with p for its part k

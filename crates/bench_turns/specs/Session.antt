@@ -1,13 +1,10 @@
 -- Calls of the bench, one after another, each lent what the one before left; the netlists stay. Assumes nothing.
-use Rattle.std.specs.Prelude.{cond, List, [], ◌∷◌, ◌++◌, ℕ, ◌+◌, eqb}
+use Rattle.std.specs.Prelude.{Option, Some, None, Result, Ok, Err, cond, List, [], ◌∷◌, ◌++◌, ℕ, ◌+◌, eqb}
+use Rattle.bench_turns.specs.declared.Cause.{Cause}
 use Rattle.netlist.specs.Layout.{input_count}
 use Rattle.assertion.specs.Graph.{Cycle}
 use Rattle.bench_turns.specs.Parts.{part_of, cycles_in}
 use Rattle.bench_turns.specs.Numbers.{waiting_of}
-use Rattle.bench_turns.specs.declared.Added.{Added}
-use Rattle.bench_turns.specs.declared.Added.TheVariants as added
-use Rattle.bench_turns.specs.declared.Turned.{Turned}
-use Rattle.bench_turns.specs.declared.Turned.TheVariants as turned
 use Rattle.bench_turns.specs.Add.{AddEnd, add_of}
 use Rattle.bench_turns.specs.Turn.{TurnEnd, oldest, turn_of}
 
@@ -45,9 +42,9 @@ after_all nets b [] = b
 after_all nets b (x ∷ xs) = after_all nets (after nets b x) xs
 
 -- ---- what they bring machine k: its accepted new cycles, in order
-unfoldable pub arrived_as : Added → ℕ → ℕ → Cycle → List Cycle
-arrived_as added.Waiting machine k cycle = cond (eqb machine k) (cycle ∷ []) []
-arrived_as (added.Refused cause) machine k cycle = []
+unfoldable pub arrived_as : Result Unit Cause → ℕ → ℕ → Cycle → List Cycle
+arrived_as (Ok tt) machine k cycle = cond (eqb machine k) (cycle ∷ []) []
+arrived_as (Err cause) machine k cycle = []
 
 unfoldable pub arrived_by : List ℕ → ℕ → Bench → Call → List Cycle
 arrived_by nets k b (add_call machine cycle) = arrived_as (add_on nets b machine cycle).answer machine k cycle
@@ -58,10 +55,10 @@ arrived nets k b [] = []
 arrived nets k b (x ∷ xs) = arrived_by nets k b x ++ arrived nets k (after nets b x) xs
 
 -- its served cycles, in order: the oldest that waited, at each turn that answers its number
-unfoldable pub served_as : Turned → ℕ → Cycle → List Cycle
-served_as turned.Idle k cycle = []
-served_as (turned.Served machine word checked) k cycle = cond (eqb machine k) (cycle ∷ []) []
-served_as (turned.Refused cause) k cycle = []
+unfoldable pub served_as : Result (Option (ℕ × ℕ × ℕ)) Cause → ℕ → Cycle → List Cycle
+served_as (Ok None) k cycle = []
+served_as (Ok (Some (machine, word, checked))) k cycle = cond (eqb machine k) (cycle ∷ []) []
+served_as (Err cause) k cycle = []
 
 unfoldable pub served_by : List ℕ → ℕ → Bench → Call → List Cycle
 served_by nets k b (add_call machine cycle) = []
@@ -72,10 +69,10 @@ served nets k b [] = []
 served nets k b (x ∷ xs) = served_by nets k b x ++ served nets k (after nets b x) xs
 
 -- ---- how many of the calls are accepted turns, idle ones among them
-unfoldable pub accepted_as : Turned → ℕ
-accepted_as turned.Idle = 1
-accepted_as (turned.Served machine word checked) = 1
-accepted_as (turned.Refused cause) = 0
+unfoldable pub accepted_as : Result (Option (ℕ × ℕ × ℕ)) Cause → ℕ
+accepted_as (Ok None) = 1
+accepted_as (Ok (Some (machine, word, checked))) = 1
+accepted_as (Err cause) = 0
 
 unfoldable pub accepted_by : List ℕ → Bench → Call → ℕ
 accepted_by nets b (add_call machine cycle) = 0

@@ -1,8 +1,11 @@
-// Eight machines on one bench, as definitions and laws, no function: where their netlists, latch words, queues and
-// numbers stand, what a new cycle and a turn answer and leave, and what lists of such calls do. Knows nothing of graphs
-// but through demand 3. Exports that queues are served in the order of arrival, that a machine with a cycle waiting is
-// served within eight accepted turns, and that each machine counts its own served cycles only.
+// Eight machines on one bench, as definitions and laws, and of code only the causes of a refusal: where their netlists,
+// latch words, queues and numbers stand, what a new cycle and a turn answer and leave, and what lists of such calls do.
+// Knows nothing of graphs but through demand 3. Exports that queues are served in the order of arrival, that a machine
+// with a cycle waiting is served within eight accepted turns, and that each machine counts its own served cycles only.
 #![tactic(auto)]
+
+ghost use Rattle.std.specs.Prelude.{◌≡◌};
+ghost use Rattle.bench_turns.specs.Refusals.{cause_of};
 
 // Why a new cycle or a turn is refused.
 #[derive(Clone, Copy)]
@@ -21,27 +24,17 @@ pub enum Cause {
     FullTally,
 }
 
-// What the tests before a call say.
-#[derive(Clone, Copy)]
-pub enum Tested {
-    Passed,
-    Failed(Cause),
-}
+// Why a turn is refused whose machine's step is. On a bench no other cause is left.
+impl From<calls::Cause> for Cause {
+    ghost from_gives = { λ cause e. e ≡ cause_of cause };
 
-// What a new cycle answers.
-#[derive(Clone, Copy)]
-pub enum Added {
-    // It waits behind those that came before it.
-    Waiting,
-    Refused(Cause),
-}
-
-// What a turn answers.
-#[derive(Clone, Copy)]
-pub enum Turned {
-    // Nothing waits.
-    Idle,
-    // The machine stepped, and its step's output words; the second is 0 where it has one output.
-    Served(u32, u64, u64),
-    Refused(Cause),
+    fn from(cause: calls::Cause) -> Cause {
+        match cause {
+            calls::Cause::TraceTooLong => Cause::NotBench,
+            calls::Cause::ShortBuffer => Cause::ShortBuffer,
+            calls::Cause::WrongLine(_) => Cause::NotBench,
+            calls::Cause::NotNetlist => Cause::NotBench,
+            calls::Cause::FullTally => Cause::FullTally,
+        }
+    }
 }

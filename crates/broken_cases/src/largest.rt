@@ -1,6 +1,6 @@
 // The cases of the largest inputs: a trace of 1,048,576 bytes, 524,288 lines `1` of which only the last is rejected, and
 // that trace with one byte more.
-use crate::{write_answers, write_number};
+use crate::write_answers;
 use std::io;
 
 const LONGER: usize = 1048577;
@@ -11,21 +11,17 @@ const LAST: usize = 524287;
 
 // Stores an LF at every second place.
 fn put_ends(trace: &mut [u8; LONGER]) {
-    let mut i = 1;
-    while i < LONGER {
-        trace[i] = b'\n';
-        i += 2;
+    for line in 0..LINES {
+        trace[2 * line + 1] = b'\n';
     }
 }
 
 // Writes the case of a trace at the flywheel and that of the same trace at the handle, the other trace empty.
 fn write_each(rt: &impl Print, width: usize, trace: &[u8], verdicts: &[u8]) -> io::Result<()> {
     let none = &trace[..0];
-    rt.write_all(b"at the flywheel, bytes")?;
-    write_number(rt, trace.len())?;
+    print!(rt; "at the flywheel, bytes {}", trace.len())?;
     write_answers(rt, width, trace, none, verdicts, none)?;
-    rt.write_all(b"at the handle, bytes")?;
-    write_number(rt, trace.len())?;
+    print!(rt; "at the handle, bytes {}", trace.len())?;
     write_answers(rt, width, none, trace, none, verdicts)
 }
 

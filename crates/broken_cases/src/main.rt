@@ -8,42 +8,29 @@
 // what document 02, No. 12, says of each. Last come the cases of the largest inputs.
 #![tactic(auto)]
 
-use first_broken::{Cause, Checked, Found};
+use first_broken::{Cause, Found, Side};
 use std::io;
 
 mod largest;
 
-// Writes a blank and a number.
-pub(crate) fn write_number(rt: &impl Print, n: usize) -> io::Result<()> {
-    let mut out = [b' '; 32];
-    let end = text::put_number(&mut out, 1, n);
-    if end <= 32 {
-        rt.write_all(&out[0..end])?;
-    }
-    Ok(())
-}
-
 // Writes which trace it is.
-fn write_trace(rt: &impl Print, handle: bool) -> io::Result<()> {
-    if handle {
-        rt.write_all(b" handle")
-    } else {
-        rt.write_all(b" flywheel")
+fn write_trace(rt: &impl Print, side: Side) -> io::Result<()> {
+    match side {
+        Side::Flywheel => print!(rt; " flywheel"),
+        Side::Handle => print!(rt; " handle"),
     }
 }
 
 // Writes what the check answered.
-fn write_checked(rt: &impl Print, checked: Checked) -> io::Result<()> {
+fn write_checked(rt: &impl Print, checked: Result<(), Cause>) -> io::Result<()> {
     match checked {
-        Checked::Fine => rt.write_all(b"\tnone"),
-        Checked::Refused(cause) => {
+        Ok(()) => print!(rt; "\tnone"),
+        Err(cause) => {
             let r = cause.refusal();
-            rt.write_all(b"\trefused")?;
-            write_number(rt, r.number as usize)?;
-            write_number(rt, r.line as usize)?;
+            print!(rt; "\trefused {} {}", r.number, r.line)?;
             match cause {
-                Cause::FlywheelLine(_) => write_trace(rt, false),
-                Cause::HandleLine(_) => write_trace(rt, true),
+                Cause::FlywheelLine(_) => write_trace(rt, Side::Flywheel),
+                Cause::HandleLine(_) => write_trace(rt, Side::Handle),
                 _ => Ok(()),
             }
         }
@@ -52,10 +39,9 @@ fn write_checked(rt: &impl Print, checked: Checked) -> io::Result<()> {
 
 // Writes which trace the part stands in, its place and its length.
 fn write_found(rt: &impl Print, found: Found) -> io::Result<()> {
-    rt.write_all(b"\tat")?;
-    write_trace(rt, found.handle)?;
-    write_number(rt, found.at)?;
-    write_number(rt, found.length)
+    print!(rt; "\tat")?;
+    write_trace(rt, found.side)?;
+    print!(rt; " {} {}", found.at, found.length)
 }
 
 // Writes the bytes of the part.

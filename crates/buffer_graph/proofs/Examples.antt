@@ -1,4 +1,5 @@
 -- What write answers and leaves, in digits: for every input, and in the request's cases. Assumes nothing.
+use Rattle.std.specs.Prelude.{Result, Ok, Err}
 use Prim.Native.Nat.{ℕ, ◌+◌, ◌*◌, ◌<◌, ◌≤◌}
 use mathlib.Core.Path.{◌≡◌, refl, ap₂}
 use mathlib.Core.Bool.{Bool, true, false, cond, not, ◌&&◌}
@@ -10,9 +11,8 @@ use lib.ListN.{length, drop, replicate, length-replicate}
 use Rattle.text.specs.Quoted.{bytes}
 use Rattle.text.specs.Numbers.{digits, digits_of}
 use Rattle.buffer_text.specs.Text.{heading, vertex_line, start_line, edge_line, count_lines, buffer_text}
+use Rattle.buffer_graph.specs.declared.Cause.{Cause}
 use Rattle.buffer_graph.specs.declared.Cause.TheVariants.{StrokesOutside, ShortBuffer}
-use Rattle.buffer_graph.specs.declared.Written.{Written}
-use Rattle.buffer_graph.specs.declared.Written.TheVariants.{Bytes, Refused}
 use Rattle.buffer_graph.specs.Write.{refusal_of, is_inside, write_of}
 use Rattle.buffer_graph.proofs.WriteLaws as write
 use Rattle.buffer_graph.proofs.WriteLaws.{due_for}
@@ -30,21 +30,21 @@ two_digits : (k : ℕ) → 10 ≤ k → due_for k ≡ 107 * k + 7
 two_digits k h = rw (le-ltb k 10 h)
 
 module _ (strokes : ℕ) (text : List ℕ) where
-  outside : (1 ≤ strokes → strokes ≤ 40 → ⊥) → write_of strokes text ≡ record { answer = Refused StrokesOutside; text = text }
+  outside : (1 ≤ strokes → strokes ≤ 40 → ⊥) → write_of strokes text ≡ record { answer = Err StrokesOutside; text = text }
   outside = write.outside strokes text
 
   module _ (some : 1 ≤ strokes) (few : strokes ≤ 40) where
-    short : length text < due_for strokes → write_of strokes text ≡ record { answer = Refused ShortBuffer; text = text }
+    short : length text < due_for strokes → write_of strokes text ≡ record { answer = Err ShortBuffer; text = text }
     short = write.too_short strokes text some few
 
-    written : due_for strokes ≤ length text → write_of strokes text ≡ record { answer = Bytes (due_for strokes); text = buffer_text strokes ++ drop (due_for strokes) text }
+    written : due_for strokes ≤ length text → write_of strokes text ≡ record { answer = Ok (due_for strokes); text = buffer_text strokes ++ drop (due_for strokes) text }
     written = write.written strokes text some few
 
 -- ---- the request's cases
 -- the number and line of a refusal, or 0 and how many bytes the text has
-abbrev told : Written → List ℕ
-told (Bytes n) = 0 ∷ n ∷ []
-told (Refused cause) = (refusal_of cause).number ∷ (refusal_of cause).line ∷ []
+abbrev told : Result ℕ Cause → List ℕ
+told (Ok n) = 0 ∷ n ∷ []
+told (Err cause) = (refusal_of cause).number ∷ (refusal_of cause).line ∷ []
 
 -- so many strokes, and how many bytes are lent
 record Case : Type 0 where

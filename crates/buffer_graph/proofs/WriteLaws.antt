@@ -1,4 +1,5 @@
 -- How long the text is, and what write answers and leaves in each of its three cases, in digits. Assumes nothing.
+use Rattle.std.specs.Prelude.{Ok, Err}
 use mathlib.Core.Path.{◌≡◌, refl}
 use mathlib.Core.Bool.{Bool, true, false, cond}
 use mathlib.Core.List.{List, ◌++◌}
@@ -11,7 +12,6 @@ use lib.ListN.{length, drop}
 use Rattle.buffer_text.specs.Text.{buffer_text}
 use Rattle.buffer_text.proofs.SizeLaws.{size_small, size-large}
 use Rattle.buffer_graph.specs.declared.Cause.TheVariants.{StrokesOutside, ShortBuffer}
-use Rattle.buffer_graph.specs.declared.Written.TheVariants.{Bytes, Refused}
 use Rattle.buffer_graph.specs.Write.{is_inside, write_end, write_of}
 
 -- the bytes that are due for k strokes, as the code computes them
@@ -33,7 +33,7 @@ module _ (strokes : ℕ) (text : List ℕ) where
     | no s ↦ rw (lt-leb 1 strokes (omega (arith, s)))
   ]
 
-  pub outside : (1 ≤ strokes → strokes ≤ 40 → ⊥) → write_of strokes text ≡ write_end (Refused StrokesOutside) text
+  pub outside : (1 ≤ strokes → strokes ≤ 40 → ⊥) → write_of strokes text ≡ write_end (Err StrokesOutside) text
   unfolding write_of
   outside h = rw (not-inside h)
 
@@ -42,10 +42,10 @@ module _ (strokes : ℕ) (text : List ℕ) where
     unfolding is_inside
     inside = rw (le-leb 1 strokes some, le-leb strokes 40 few)
 
-    pub too_short : length text < due_for strokes → write_of strokes text ≡ write_end (Refused ShortBuffer) text
+    pub too_short : length text < due_for strokes → write_of strokes text ≡ write_end (Err ShortBuffer) text
     unfolding write_of
     too_short l = rw (inside, bytes_due_lem strokes some few, lt-leb (due_for strokes) (length text) l)
 
-    pub written : due_for strokes ≤ length text → write_of strokes text ≡ write_end (Bytes (due_for strokes)) (buffer_text strokes ++ drop (due_for strokes) text)
+    pub written : due_for strokes ≤ length text → write_of strokes text ≡ write_end (Ok (due_for strokes)) (buffer_text strokes ++ drop (due_for strokes) text)
     unfolding write_of
     written l = rw (inside, bytes_due_lem strokes some few, le-leb (due_for strokes) (length text) l)

@@ -3,12 +3,12 @@
 // the cycles that the buffer's count condemns, and what build makes of it: the clause `buffer` of `write`.
 #![tactic(auto)]
 
-ghost use Rattle.std.specs.Prelude.{◌≡◌, ℕ, ◌≤◌, length, take};
+ghost use Rattle.std.specs.Prelude.{◌≡◌, ◌≤◌, length, take, IfOk};
 ghost use Rattle.buffer_text.specs.Text.{buffer_text};
 ghost use Rattle.buffer_text.specs.Claims.{StrokeBuffer};
 ghost use Rattle.buffer_graph.specs.Write.{refusal_of, write_end, write_of};
 
-use lines::put_graph;
+use lines::fill;
 use text::Refusal;
 
 mod lines;
@@ -23,13 +23,6 @@ pub enum Cause {
     StrokesOutside,
     // The buffer is shorter than the text.
     ShortBuffer,
-}
-
-#[derive(Clone, Copy)]
-pub enum Written {
-    // How many bytes the text has.
-    Bytes(usize),
-    Refused(Cause),
 }
 
 impl Cause {
@@ -58,21 +51,17 @@ fn bytes_due(k: usize) -> usize
     if k < 10 { 100 * k + 72 } else { 107 * k + 7 }
 }
 
-// Writes the stroke buffer's graph for so many strokes to the front of a lent buffer.
-pub fn write(strokes: u64, text: &mut [u8]) -> Written
+// Writes the stroke buffer's graph for so many strokes to the front of a lent buffer. Answers how many bytes the text has.
+pub fn write(strokes: u64, text: &mut [u8]) -> Result<usize, Cause>
     ensures text_after { write_end result text.new ≡ write_of strokes text.old }
-    ensures buffer { (n : ℕ) → result ≡ Written.Bytes n → StrokeBuffer strokes (take n text.new) }
+    ensures buffer { IfOk result (λ n. StrokeBuffer strokes (take n text.new)) }
 {
-    if strokes < 1 {
-        return Written::Refused(Cause::StrokesOutside);
-    }
-    if strokes > MAX_STROKES {
-        return Written::Refused(Cause::StrokesOutside);
+    if strokes < 1 || strokes > MAX_STROKES {
+        return Err(Cause::StrokesOutside);
     }
     let k = strokes as usize;
     if text.len() < bytes_due(k) {
-        return Written::Refused(Cause::ShortBuffer);
+        return Err(Cause::ShortBuffer);
     }
-    let end = put_graph(text, k);
-    Written::Bytes(end)
+    Ok(fill(text, k))
 }

@@ -1,5 +1,6 @@
 -- The page for a number of strokes: none is longer than 4,287 bytes, and put_page leaves it first in its buffer at each of
 -- its ends. Assumes nothing.
+use Rattle.std.specs.Prelude.{Result, Ok, Err}
 use mathlib.Core.Path.{◌≡◌, refl, ap, ap₂, ◌∙◌}
 use mathlib.Core.Bool.{Bool, true, false}
 use mathlib.Core.List.{List, ◌++◌}
@@ -20,8 +21,6 @@ use Rattle.buffer_text.specs.Text.{buffer_text}
 use Rattle.buffer_text.proofs.SizeLaws.{size-most}
 use Rattle.buffer_graph.specs.declared.Cause.{Cause}
 use Rattle.buffer_graph.specs.declared.Cause.TheVariants.{StrokesOutside}
-use Rattle.buffer_graph.specs.declared.Written.{Written}
-use Rattle.buffer_graph.specs.declared.Written.TheVariants.{Bytes, Refused}
 use Rattle.buffer_graph.specs.Write.{refusal_of, is_inside, WriteEnd, write_end, write_of}
 use Rattle.buffer_rule.specs.Page.{strokes_page}
 
@@ -38,44 +37,44 @@ stands-first : (page out : List ℕ) {left : List ℕ} {end : ℕ} → end ≡ l
 stands-first page out same all =
     (omega (arith, ap length all, length-append page (drop (length page) out)), ap₂ take same all ∙ take_at page (drop (length page) out) (length page) refl)
 
-module _ (k : ℕ) (out : List ℕ) (room : length out ≡ 4287) {r : Written} {left : List ℕ} (e : write_end r left ≡ write_of k out) where
+module _ (k : ℕ) (out : List ℕ) (room : length out ≡ 4287) {r : Result ℕ Cause} {left : List ℕ} (e : write_end r left ≡ write_of k out) where
   abbrev graph : List ℕ
   graph = buffer_text k
 
-  ends-inside : is_inside k ≡ true → write_end r left ≡ write_end (Bytes (length graph)) (graph ++ drop (length graph) out)
+  ends-inside : is_inside k ≡ true → write_end r left ≡ write_end (Ok (length graph)) (graph ++ drop (length graph) out)
   unfolding write_of
   ends-inside h = e ∙ rw (h, le-leb (length graph) (length out) (omega (arith, text-fits k h)))
 
-  ends_outside : is_inside k ≡ false → write_end r left ≡ write_end (Refused StrokesOutside) out
+  ends_outside : is_inside k ≡ false → write_end r left ≡ write_end (Err StrokesOutside) out
   unfolding write_of
   ends_outside h = e ∙ rw h
 
   -- the text was written
-  pub printed : {end : ℕ} → r ≡ Bytes end → (end ≤ length left) × (take end left ≡ strokes_page k)
+  pub printed : {end : ℕ} → r ≡ Ok end → (end ≤ length left) × (take end left ≡ strokes_page k)
   unfolding strokes_page
   printed {end} h = by (is_inside k) refl
     where
       by : (t : Bool) → is_inside k ≡ t → (end ≤ length left) × (take end left ≡ strokes_page k)
       by true i =
-          let is : r ≡ Bytes (length graph) = ap (λ (w : WriteEnd). w.answer) (ends-inside i) in
+          let is : r ≡ Ok (length graph) = ap (λ (w : WriteEnd). w.answer) (ends-inside i) in
           let same : end ≡ length graph = cc in
           rw i (stands-first graph out same (ap (λ (w : WriteEnd). w.text) (ends-inside i)))
       by false i =
-          let is : r ≡ Refused StrokesOutside = ap (λ (w : WriteEnd). w.answer) (ends_outside i) in
+          let is : r ≡ Err StrokesOutside = ap (λ (w : WriteEnd). w.answer) (ends_outside i) in
           let z : ◌≡◌ {A = ℕ} 0 1 = cc in absurd (omega arith)
 
   -- it was refused, and the line of that was written
-  pub refused : {cause : Cause} {refusal : Refusal} {after : List ℕ} {end : ℕ} → r ≡ Refused cause → refusal ≡ refusal_of cause
+  pub refused : {cause : Cause} {refusal : Refusal} {after : List ℕ} {end : ℕ} → r ≡ Err cause → refusal ≡ refusal_of cause
       → Wrote left after 0 end (refused_line refusal) → (end ≤ length after) × (take end after ≡ strokes_page k)
   unfolding strokes_page
   refused {cause} {refusal} {after} {end} h n w = by (is_inside k) refl
     where
       by : (t : Bool) → is_inside k ≡ t → (end ≤ length after) × (take end after ≡ strokes_page k)
       by true i =
-          let is : r ≡ Bytes (length graph) = ap (λ (x : WriteEnd). x.answer) (ends-inside i) in
+          let is : r ≡ Ok (length graph) = ap (λ (x : WriteEnd). x.answer) (ends-inside i) in
           let z : ◌≡◌ {A = ℕ} 0 1 = cc in absurd (omega arith)
       by false i =
-          let is : r ≡ Refused StrokesOutside = ap (λ (x : WriteEnd). x.answer) (ends_outside i) in
+          let is : r ≡ Err StrokesOutside = ap (λ (x : WriteEnd). x.answer) (ends_outside i) in
           let same : cause ≡ StrokesOutside = cc in
           let as-was : left ≡ out = ap (λ (x : WriteEnd). x.text) (ends_outside i) in
           let line : List ℕ = refused_line (refusal_of StrokesOutside) in

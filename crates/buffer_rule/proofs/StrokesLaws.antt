@@ -1,4 +1,5 @@
 -- How many strokes an input says, and that seven bytes of it settle its page. Assumes nothing.
+use Rattle.std.specs.Prelude.{Option, Some, None}
 use mathlib.Core.Path.{◌≡◌, refl, sym, ap, ◌∙◌}
 use mathlib.Core.Bool.{Bool, true, false, cond, not, ◌&&◌, ◌||◌}
 use mathlib.Core.List.{List}
@@ -10,8 +11,6 @@ use lib.Dec.{eqb, leb}
 use lib.ListN.{length, get_or, take, length-take}
 use lib.Seq.{take_all}
 use Rattle.text.specs.Numbers.{leading_digits, value_from, is_numeral, read_number}
-use Rattle.text.specs.declared.Number.{Number}
-use Rattle.text.specs.declared.Number.TheVariants.{Read, None}
 use Rattle.text.proofs.NumberLaws.{and_both}
 use Rattle.buffer_rule.specs.Page.{line_number, strokes_of, strokes_page, rule_text}
 
@@ -28,7 +27,7 @@ module _ (s : List ℕ) where
   unfolding line_number strokes_of
   no_number e = rw e
 
-  module _ {n end : ℕ} (e : read_number s 0 ≡ Read n end) where
+  module _ {n end : ℕ} (e : read_number s 0 ≡ Some (n, end)) where
     pub no_line_lem : (get_or s end 0 ≡ 10 → length s ≡ end + 1 → ⊥) → 0 ≡ strokes_of s
     unfolding line_number strokes_of
     no_line_lem h = rw e (by (eqb (get_or s end 0) 10) (eqb (length s) (end + 1)) refl refl)
@@ -47,8 +46,11 @@ module _ (s : List ℕ) where
     end_near = by (is_numeral (leading_digits s)) refl e
       where
         by : (t : Bool) → is_numeral (leading_digits s) ≡ t
-            → cond t (Read (value_from 0 (leading_digits s)) (0 + length (leading_digits s))) None ≡ Read n end → end ≤ 5
-        by true h is = let same : 0 + length (leading_digits s) ≡ end = cc in omega (arith, numeral_short (leading_digits s) h)
+            → cond {A = Option (ℕ × ℕ)} t (Some (value_from 0 (leading_digits s), 0 + length (leading_digits s))) None ≡ Some (n, end) → end ≤ 5
+        by true h is =
+            let pair : ◌≡◌ {A = ℕ × ℕ} (value_from 0 (leading_digits s), 0 + length (leading_digits s)) (n, end) = cc in
+            let same : 0 + length (leading_digits s) ≡ end = ap (λ (p : ℕ × ℕ). p.1) pair in
+            omega (arith, numeral_short (leading_digits s) h)
         by false h is = let z : ◌≡◌ {A = ℕ} 0 1 = cc in absurd (omega arith)
 
 -- ---- an input of seven bytes or more is no line of a number, so no more of it need be read
@@ -58,8 +60,8 @@ size = 7
 long : (s : List ℕ) → size ≤ length s → 0 ≡ strokes_of s
 long s l = by (read_number s 0) refl
   where
-    by : (r : Number) → read_number s 0 ≡ r → 0 ≡ strokes_of s
-    by (Read n end) e = no_line_lem s e (λ lf last. omega (arith, end_near s e))
+    by : (r : Option (ℕ × ℕ)) → read_number s 0 ≡ r → 0 ≡ strokes_of s
+    by (Some (n, end)) e = no_line_lem s e (λ lf last. omega (arith, end_near s e))
     by None e = no_number s e
 
 cut : (s : List ℕ) → strokes_of (take size s) ≡ strokes_of s

@@ -1,18 +1,16 @@
 -- The page of the program that prints the stroke buffer's graph (document 02, No. 6): its text for as many strokes as the
 -- input says, or the line of the refusal. Assumes nothing.
-use Rattle.std.specs.Prelude.{cond, ◌&&◌, List, ℕ, ◌+◌, eqb, length, get_or}
+use Rattle.std.specs.Prelude.{Option, Some, None, cond, ◌&&◌, List, ℕ, ◌+◌, eqb, length, get_or}
 use Rattle.text.specs.Quoted.{byte}
 use Rattle.text.specs.Numbers.{read_number}
-use Rattle.text.specs.declared.Number.{Number}
-use Rattle.text.specs.declared.Number.TheVariants.{Read, None}
 use Rattle.page_text.specs.Lines.{refused_line}
 use Rattle.buffer_text.specs.Text.{buffer_text}
 use Rattle.buffer_graph.specs.declared.Cause.TheVariants.{StrokesOutside}
 use Rattle.buffer_graph.specs.Write.{refusal_of, is_inside}
 
 -- the number that was read at the input's start, where just an LF follows it; else 0, for which there is no graph
-unfoldable pub line_number : List ℕ → Number → ℕ
-line_number input (Read n end) = cond (eqb (get_or input end 0) (byte "\n") && eqb (length input) (end + 1)) n 0
+unfoldable pub line_number : List ℕ → Option (ℕ × ℕ) → ℕ
+line_number input (Some (n, end)) = cond (eqb (get_or input end 0) (byte "\n") && eqb (length input) (end + 1)) n 0
 line_number input None = 0
 
 -- how many strokes the input says: the number whose numeral, ended by LF, is all of it

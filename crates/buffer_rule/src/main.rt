@@ -5,9 +5,7 @@
 ghost use Rattle.std.specs.Prelude.{◌≡◌, List, ℕ, ◌≤◌, length, take};
 ghost use Rattle.buffer_rule.specs.Page.{strokes_of, strokes_page, rule_text};
 
-use buffer_graph::Written;
 use std::io;
-use text::Number;
 
 // One byte more than a line of five digits, the longest that is read as a number: what is longer is refused, and no more of
 // it is read.
@@ -20,13 +18,10 @@ const PAGE: usize = 4287;
 fn strokes_of(input: &[u8]) -> u64
     ensures { result ≡ strokes_of input.now }
 {
-    let Number::Read(n, end) = text::read_number(input, 0) else {
+    let Some((n, end)) = text::read_number(input, 0) else {
         return 0;
     };
-    if text::byte_at(input, end) != b'\n' {
-        return 0;
-    }
-    if input.len() != end + 1 {
+    if text::byte_at(input, end) != b'\n' || input.len() != end + 1 {
         return 0;
     }
     n as u64
@@ -37,10 +32,9 @@ fn put_page(strokes: u64, out: &mut [u8]) -> usize
     requires { length out.old ≡ 4287 }
     ensures { (result ≤ length out.new) × (take result out.new ≡ strokes_page strokes) }
 {
-    let written = buffer_graph::write(strokes, out);
-    match written {
-        Written::Bytes(end) => end,
-        Written::Refused(cause) => page_text::put_refusal(out, 0, cause.refusal()),
+    match buffer_graph::write(strokes, out) {
+        Ok(end) => end,
+        Err(cause) => page_text::write_refusal(out, cause.refusal()),
     }
 }
 

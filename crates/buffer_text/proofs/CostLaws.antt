@@ -1,5 +1,6 @@
 -- What the buffer's graph costs: 3k + 2 edges, all terminal, every vertex but the start entered, and 8k − 4 gates for the
 -- formulas. Assumes nothing.
+use Rattle.std.specs.Prelude.{Ok}
 use Prim.Native.Nat.{ℕ, zero, suc, ◌+◌, ◌-◌, ◌*◌, ◌<◌, ◌≤◌}
 use mathlib.Core.Path.{◌≡◌, refl, ap, sym, ◌∙◌}
 use mathlib.Core.Bool.{Bool, true, false}
@@ -12,7 +13,6 @@ use lib.ListN.{length, length-append}
 use Rattle.assertion.specs.Graph.{Edge, bits_of, signal_bits, constant_bits, is_terminal}
 use Rattle.circuit.specs.Count.{formula_gates, all_formula_gates, incoming, entered, terminals, gate_formula}
 use Rattle.builder.specs.Build.{variables_of, build_of}
-use Rattle.builder.specs.declared.Built.TheVariants.{Gates}
 use Rattle.builder.proofs.DemandLaws.{build_means}
 use Rattle.buffer_text.specs.Text.{buffer_text}
 use Rattle.buffer_text.proofs.Graph.{edges_of, edges_at, edges_below, buffer_graph}
@@ -150,8 +150,8 @@ module _ (k : ℕ) (h : 1 ≤ k) where
     variables =
         (build_means false (buffer_text k) []).variables (buffer_graph k) (graph k h l) ∙ omega (arith, gates, (edges_cost k h).many, bits.0, bits.1)
 
-    pub built : (net : List ℕ) → 84 * k + 40 ≤ length net → (build_of false (buffer_text k) net).answer ≡ Gates (36 * k + 13)
+    pub built : (net : List ℕ) → 84 * k + 40 ≤ length net → (build_of false (buffer_text k) net).answer ≡ Ok (36 * k + 13)
     built net room =
         let n : gate_formula (buffer_graph k) + 0 ≡ 36 * k + 13 = omega (arith, gates) in
         (build_means false (buffer_text k) net).accepts (buffer_graph k) (graph k h l)
-        (omega (arith, gates, (edges_cost k h).many, bits.0, bits.1)) (omega (arith, gates, (edges_cost k h).many, bits.1)) ∙ ap Gates n
+        (omega (arith, gates, (edges_cost k h).many, bits.0, bits.1)) (omega (arith, gates, (edges_cost k h).many, bits.1)) ∙ ap Ok n

@@ -1,13 +1,12 @@
 -- What is claimed of the stroke buffer's graph (document 02, No. 6): which cycles it rejects, by the listing's count. Assumes
 -- nothing.
-use Rattle.std.specs.Prelude.{ℕ, ◌+◌, ◌-◌, ◌*◌, ◌≤◌, ◌≡◌, Bool, true, false, not, cond, ◌&&◌, ◌||◌, List, [], ◌∷◌, eqb, length}
+use Rattle.std.specs.Prelude.{Ok, ℕ, ◌+◌, ◌-◌, ◌*◌, ◌≤◌, ◌≡◌, Bool, true, false, not, cond, ◌&&◌, ◌||◌, List, [], ◌∷◌, eqb, length}
 use Rattle.std.specs.Bool.{beq}
 use Rattle.assertion.specs.Lists.{any}
 use Rattle.assertion.specs.Graph.{Bytes, Graph, Cycle, input, holds}
 use Rattle.assertion.specs.Paths.{Latest, Rejected}
 use Rattle.graph.specs.Reading.{accepted, graph_of}
 use Rattle.builder.specs.Build.{variables_of, build_of}
-use Rattle.builder.specs.declared.Built.TheVariants.{Gates}
 
 -- ---- the signals in a cycle; its input 0 is init
 abbrev pub is_reset : Cycle → Bool
@@ -74,5 +73,5 @@ pub record StrokeBuffer (k : ℕ) (text : Bytes) : Type 0 where
   pub never_stuck : (n : ℕ) → n ≤ k → (c : Cycle) → any (λ e. eqb e.from (n + 1) && holds [] c e.antecedent) graph.edges ≡ true
   -- with checked left out, build makes 36k + 13 gates of it wherever it is lent the 84k + 40 numbers that are due; M is
   -- 42k + 23
-  pub built : (net : List ℕ) → 84 * k + 40 ≤ length net → (build_of false text net).answer ≡ Gates (36 * k + 13)
+  pub built : (net : List ℕ) → 84 * k + 40 ≤ length net → (build_of false text net).answer ≡ Ok (36 * k + 13)
   pub variables : variables_of false graph ≡ 42 * k + 23

@@ -1,6 +1,6 @@
 -- Gates stored one after another are stored as one list; a loop that stores them: all are left, some are
 -- stored, none is left. Assumes nothing.
-use mathlib.Core.Path.{◌≡◌, refl, sym, ap, ◌∙◌}
+use mathlib.Core.Path.{◌≡◌, refl, ap, ◌∙◌}
 use mathlib.Core.List.{List, [], ◌∷◌, ◌++◌}
 use Prim.Native.Nat.{ℕ, ◌+◌, ◌-◌, ◌*◌, ◌≤◌}
 use native.Mathlib.Omega.{arith}
@@ -10,6 +10,7 @@ use Rattle.text.proofs.WriterLaws.{sets-append}
 use Rattle.circuit.specs.Gates.{Gate}
 use Rattle.circuit.specs.Numbers.{operands}
 use Rattle.builder.specs.Private.Adding.{Added, Room, Going, Splits}
+use Rattle.builder.specs.declared.gates.Gates.{Gates}
 
 pub words-length : (xs : List Gate) → length (operands xs) ≡ 2 * length xs
 words-length [] = refl
@@ -26,65 +27,63 @@ two_runs f l n k s t h e =
     rw (p, words_append) (sets-append (operands s) (operands t) l (2 * (n - f)))
 
 -- THE COMPOSITION LAW
-pub then : {f : ℕ} {l m r : List ℕ} {i j k : ℕ} {s t : List Gate} → Added f l m i j s → Added f m r j k t → Added f l r i k (s ++ t)
-then {f} {l} {m} {r} {i} {j} {k} {s} {t} p q =
+pub then : {s t u : Gates} {a b : List Gate} → Added s t a → Added t u b → Added s u (a ++ b)
+then {s} {t} {u} {a} {b} p q =
     record {
+      first = q.first ∙ p.first;
       from = p.from;
       count = rw length-append (omega (arith, p.count, q.count));
-      words = q.words ∙ rw p.words (two_runs f l i j s t p.from p.count);
+      words = q.words ∙ rw (p.words, p.first) (two_runs s.first.0 s.out.now s.next.0 t.next.0 a b p.from p.count);
     }
 
-pub none : (f : ℕ) (l : List ℕ) (n : ℕ) → f ≤ n → Added f l l n n []
-none f l n h = record { from = h; count = omega arith; words = refl }
+pub none : (s : Gates) → s.first.0 ≤ s.next.0 → Added s s []
+none s h = record { first = refl; from = h; count = omega arith; words = refl }
 
 -- ---- a loop that writes gates: all are left, some are stored, none is left
 
-pub begin : (f : ℕ) (l : List ℕ) (n : ℕ) (whole : List Gate) → f ≤ n → Going f l l n n whole whole
-begin f l n whole h = record { from = h; on = h; count = refl; words = refl }
+pub begin : (s : Gates) (whole : List Gate) → s.first.0 ≤ s.next.0 → Going s s whole whole
+begin s whole h = record { first = refl; from = h; on = h; count = refl; words = refl }
 
-pub go : {f : ℕ} {l m r : List ℕ} {n i j : ℕ} {whole rest s rest' : List Gate} → Going f l m n i whole rest → Splits rest s rest' → Added f m r i j s → Going f l r n j whole rest'
-go {f} {l} {m} {r} {n} {i} {j} {whole} {rest} {s} {rest'} o e p =
+pub go : {s t u : Gates} {whole rest now later : List Gate} → Going s t whole rest → Splits rest now later → Added t u now → Going s u whole later
+go {s} {t} {u} {whole} {rest} {now} {later} o e p =
     record {
+      first = p.first ∙ o.first;
       from = o.from;
-      on = omega (arith, p.from, p.count);
-      count = omega (arith, p.count, o.count, ap length e.is, length-append s rest');
-      words = rw p.words (two_runs f m i j s rest' p.from p.count) ∙ rw e.is at o.words;
+      on = omega (arith, p.from, p.count, o.first);
+      count = omega (arith, p.count, o.count, ap length e.is, length-append now later);
+      words = rw (p.words, o.first) (two_runs s.first.0 t.out.now t.next.0 u.next.0 now later o.on p.count) ∙ rw e.is at o.words;
     }
 
-pub done : {f : ℕ} {l m : List ℕ} {n k : ℕ} {whole rest : List Gate} → Going f l m n k whole rest → rest ≡ [] → Added f l m n k whole
-done {f} {l} {m} {n} {k} {whole} {rest} o e = record { from = o.from; count = omega (arith, o.count, ap length e); words = rw e at o.words }
-
-pub going_kept : {f : ℕ} {l m : List ℕ} {n k : ℕ} {whole rest : List Gate} → Going f l m n k whole rest → length m ≡ length l
-going_kept {f} {l} {m} {n} {k} {whole} {rest} o =
-    sym (length-sets m (2 * (k - f)) (operands rest)) ∙ ap length o.words ∙ length-sets l (2 * (n - f)) (operands whole)
+pub done : {s t : Gates} {whole rest : List Gate} → Going s t whole rest → rest ≡ [] → Added s t whole
+done {s} {t} {whole} {rest} o e = record { first = o.first; from = o.from; count = omega (arith, o.count, ap length e); words = rw e at o.words }
 
 -- what is left has room
-pub going_room : {f : ℕ} {l m : List ℕ} {n i : ℕ} {whole rest s rest' : List Gate} → Going f l m n i whole rest → Splits rest s rest' → Room f l n (length whole) → Room f m i (length s)
-going_room {f} {l} {m} {n} {i} {whole} {rest} {s} {rest'} o e r =
-    let h : length rest ≡ length s + length rest' = ap length e.is ∙ length-append s rest' in
+pub going_room : {s t : Gates} {whole rest now later : List Gate} → Going s t whole rest → Splits rest now later → Room s (length whole) → Room t (length now)
+going_room {s} {t} {whole} {rest} {now} {later} o e r =
+    let h : length rest ≡ length now + length later = ap length e.is ∙ length-append now later in
     record {
-      from = o.on;
+      from = omega (arith, o.on, o.first);
       few = omega (arith, o.count, r.few, h);
     }
 
 -- the buffer keeps its length
-pub kept : {f : ℕ} {l r : List ℕ} {i k : ℕ} {s : List Gate} → Added f l r i k s → length r ≡ length l
-kept {f} {l} {r} {i} {k} {s} p = ap length p.words ∙ length-sets l (2 * (i - f)) (operands s)
+pub kept : {s t : Gates} {a : List Gate} → Added s t a → length t.out.now ≡ length s.out.now
+kept {s} {t} {a} p = ap length p.words ∙ length-sets s.out.now (2 * (s.next.0 - s.first.0)) (operands a)
 
 -- ---- room for gates in two parts, for the first and then for the second
 
-pub room-first : {f : ℕ} {l : List ℕ} {n : ℕ} {all s t : List Gate} → Splits all s t → Room f l n (length all) → Room f l n (length s)
-room-first {f} {l} {n} {all} {s} {t} e r =
-    let h : length all ≡ length s + length t = ap length e.is ∙ length-append s t in
+pub room-first : {s : Gates} {all now later : List Gate} → Splits all now later → Room s (length all) → Room s (length now)
+room-first {s} {all} {now} {later} e r =
+    let h : length all ≡ length now + length later = ap length e.is ∙ length-append now later in
     record { from = r.from; few = omega (arith, r.few, h) }
 
-pub room-second : {f : ℕ} {l m : List ℕ} {n k : ℕ} {all s t : List Gate} → Splits all s t → Room f l n (length all) → Added f l m n k s → Room f m k (length t)
-room-second {f} {l} {m} {n} {k} {all} {s} {t} e r p =
-    let h : length all ≡ length s + length t = ap length e.is ∙ length-append s t in
+pub room-second : {s t : Gates} {all now later : List Gate} → Splits all now later → Room s (length all) → Added s t now → Room t (length later)
+room-second {s} {t} {all} {now} {later} e r p =
+    let h : length all ≡ length now + length later = ap length e.is ∙ length-append now later in
     record {
-      from = omega (arith, r.from, p.count);
+      from = omega (arith, r.from, p.count, p.first);
       few = omega (arith, r.few, p.count, h);
     }
 
-pub whole_of : {f : ℕ} {l m r : List ℕ} {i j k : ℕ} {all s t : List Gate} → Splits all s t → Added f l m i j s → Added f m r j k t → Added f l r i k all
+pub whole_of : {s t u : Gates} {all now later : List Gate} → Splits all now later → Added s t now → Added t u later → Added s u all
 whole_of e p q = rw e.is (then p q)

@@ -8,14 +8,15 @@ use native.Mathlib.Nat.{sub-zero}
 use native.Mathlib.Omega.{arith}
 use native.Mathlib.Decide.{dec_lt}
 use borrow.Author.Tests.{lt-ltb, le-ltb}
-use lib.ListN.{length, take, replicate}
+use lib.ListN.{length, take, replicate, length-take}
 use Rattle.netlist.specs.Literals.{literal_of}
 use Rattle.netlist.proofs.LiteralLaws.{variable-literal, inverted-literal}
 use Rattle.graph.specs.Reading.{run_of}
 use Rattle.circuit.specs.Gates.{lit, inv, gate, Piece, xor_of}
 use Rattle.circuit.specs.Build.{and_from, and_all, or_from, or_all, bit_literal, same_bits, alike_of}
+use Rattle.builder.specs.declared.gates.Gates.{Gates}
 use Rattle.builder.specs.Private.Adding.{Going, Splits}
-use Rattle.builder.specs.Private.Terms.{terms_of, or_on, accept_of}
+use Rattle.builder.specs.Private.Terms.{terms_of, accept_of}
 use Rattle.builder.specs.Private.Machine.{bit_at, differ_bits, alike_made}
 use Rattle.builder.proofs.AddingLaws.{begin}
 
@@ -39,7 +40,7 @@ differ-outs p q (suc w) n i = ap suc (differ-outs p q w (n + 3) (suc i))
 
 -- ---- the joins
 -- an AND of inverses is the inverse of an OR chain, gate for gate the same
-inv_flip : (n : ℕ) (b : Bool) → inv (literal_of n b) ≡ literal_of n (not b)
+pub inv_flip : (n : ℕ) (b : Bool) → inv (literal_of n b) ≡ literal_of n (not b)
 unfolding inv
 inv_flip n b = rw (variable-literal n b, inverted-literal n b)
 
@@ -61,7 +62,7 @@ terms_all (l ∷ ls) zero h = absurd (omega arith)
 terms_all (l ∷ ls) (suc w) h = ap (λ (r : List ℕ). l ∷ r) (terms_all ls w (omega arith))
 
 joins-are : (ls : List ℕ) (n w : ℕ) → length ls ≡ w → accept_of n (replicate w 1) ls ≡ and_all n (map inv ls)
-unfolding accept_of or_on
+unfolding accept_of
 joins-are ls n w h = rw (terms_all ls w h, and_all_lem ls n)
 
 -- THE LAW, over the width
@@ -69,23 +70,26 @@ pub alike_made_lem : (m n p q w : ℕ) → alike_made n p q w ≡ alike_of m n (
 unfolding alike_made alike_of
 alike_made_lem m n p q w = rw (bits_are m p q w n 0, joins-are (differ_bits n p q 0 w).outs (n + length (differ_bits n p q 0 w).gates) w (differ-outs p q w n 0))
 
--- ---- how the code goes: first the bits, and then the chain over arrays of 16
+-- ---- how the code goes: first the bits, and then the chain over as many
 take-ones : (w k : ℕ) → w ≤ k → take {A = ℕ} w (replicate k 1) ≡ replicate w 1
 take-ones zero k h = refl
 take-ones (suc w) zero h = absurd (omega arith)
 take-ones (suc w) (suc k) h = ap (λ (l : List ℕ). 1 ∷ l) (take-ones w k (omega arith))
 
-pub alike-parts : (n p q w : ℕ) {ls : List ℕ} {next : ℕ} → w ≤ 16 → ls ≡ (differ_bits n p q 0 w).outs → next ≡ n + length (differ_bits n p q 0 w).gates →
-    Splits (alike_made n p q w).gates (differ_bits n p q 0 w).gates (accept_of next (take w (replicate 16 1)) ls).gates
-    × ((alike_made n p q w).out ≡ (accept_of next (take w (replicate 16 1)) ls).out)
+pub room-length : (w x : ℕ) → w ≤ 16 → length (take w (replicate 16 x)) ≡ w
+room-length w x h = rw length-take (omega arith)
+
+pub alike-parts : (n p q w next : ℕ) {ks ls : List ℕ} → w ≤ 16 → ks ≡ take w (replicate 16 1) → ls ≡ (differ_bits n p q 0 w).outs → next ≡ n + length (differ_bits n p q 0 w).gates →
+    Splits (alike_made n p q w).gates (differ_bits n p q 0 w).gates (accept_of next ks ls).gates
+    × ((alike_made n p q w).out ≡ (accept_of next ks ls).out)
 unfolding alike_made
-alike-parts n p q w h e k = (record { is = rw (take-ones w 16 h, e, k) }, rw (take-ones w 16 h, e, k))
+alike-parts n p q w next h m e k = (record { is = rw (m, take-ones w 16 h, e, k) }, rw (m, take-ones w 16 h, e, k))
 
 -- ---- the loop over the bits
 module _ (p q : ℕ) where
-  pub differ_begin : (f : ℕ) (out : List ℕ) (n w : ℕ) → f ≤ n → Going f out out n n (differ_bits n p q 0 w).gates (differ_bits n p q 0 (w - 0)).gates
+  pub differ_begin : (s : Gates) (w : ℕ) → s.first.0 ≤ s.next.0 → let n = s.next.0 in Going s s (differ_bits n p q 0 w).gates (differ_bits n p q 0 (w - 0)).gates
       × ((differ_bits n p q 0 (w - 0)).outs ≡ (differ_bits n p q 0 w).outs)
-  differ_begin f out n w h = rw sub-zero (begin f out n (differ_bits n p q 0 w).gates h, refl)
+  differ_begin s w h = rw sub-zero (begin s (differ_bits s.next.0 p q 0 w).gates h, refl)
 
   pub differ_step : (n i w next : ℕ) → i < w → next ≡ n + 3 →
       Splits (differ_bits n p q i (w - i)).gates (xor_of n (bit_at p i) (bit_at q i)).gates (differ_bits next p q (i + 1) (w - (i + 1))).gates

@@ -14,10 +14,11 @@ use Rattle.circuit.specs.Build.{Bits, init, Two, Pieces, masks, or_all, happy_te
 use Rattle.circuit.specs.Checked.{terminal_twos, alives, checked_from, checked_piece, gates_with, outputs_with}
 use Rattle.circuit.specs.Numbers.{edge_latches}
 use Rattle.builder.specs.Private.Adding.{Splits, Added}
-use Rattle.builder.specs.Private.Terms.{mask_gates, every_other, terms_of, or_on, vertex_happy, vertex_condemned, vertex_of, vertices_of, accept_of, alive_of, alives_of, checked_of, ends_of, Gathers}
+use Rattle.builder.specs.Private.Terms.{mask_gates, every_other, terms_of, or_begun, vertex_happy, vertex_condemned, vertex_of, vertices_of, accept_of, alive_of, alives_of, checked_of, ends_of, Gathers}
 use Rattle.builder.specs.Private.Edges.{two, edge_of, edges_of, targets, marks, mark_of}
 use Rattle.builder.specs.Private.Monitor.{gather_of, gather_gates, ends_after, judge_gates, monitor_gates, monitor_ends, monitor_edges, JudgeMade, MonitorMade, edge_pairs, outputs_of}
 use Rattle.builder.specs.declared.Outputs.{Outputs}
+use Rattle.builder.specs.declared.gates.Gates.{Gates}
 use Rattle.builder.proofs.AddingLaws.{whole_of}
 use Rattle.builder.proofs.AlikeLaws.{and_all_lem}
 use Rattle.builder.proofs.EdgeLaws.{chosen, length-chosen, targets-chosen, edges-chosen}
@@ -69,8 +70,7 @@ condemned_terms_lem v [] ms = refl
 condemned_terms_lem v (e ∷ es) [] = refl
 condemned_terms_lem v (e ∷ es) (m ∷ ms) = rw (condemned_terms_lem v es ms)
 
-with_init_lem : (start : Bool) (n : ℕ) (ts : List ℕ) → or_all n (cond start (lit init ∷ ts) ts) ≡ or_on start n (lit init) ts
-unfolding or_on
+with_init_lem : (start : Bool) (n : ℕ) (ts : List ℕ) → or_all n (cond start (lit init ∷ ts) ts) ≡ or_begun start n ts
 with_init_lem true n ts = refl
 with_init_lem false n ts = refl
 
@@ -79,7 +79,7 @@ unfolding happy_or vertex_happy
 happy_or_lem n v es ms = rw (happy_terms_lem v es ms) (with_init_lem (eqb v 0) n (terms_of v (targets es) (happies ms)))
 
 condemned_or_lem : (n v : ℕ) (es : List Edge) (ms : List Two) → condemned_or n v es ms ≡ vertex_condemned n (targets es) (condemneds ms) v
-unfolding condemned_or vertex_condemned or_on
+unfolding condemned_or vertex_condemned
 condemned_or_lem n v es ms = rw (condemned_terms_lem v es ms)
 
 -- a piece of the definition is one of the loops'
@@ -128,7 +128,7 @@ accept_terms_lem g (e ∷ es) (m ∷ ms) = by (is_terminal g e) _ _ (accept_term
     by false zs bs q = q
 
 accept-is : (g : Graph) (es : List Edge) (ms : List Two) (n : ℕ) → and_all n (accept_terms g es ms) ≡ accept_of n (marks (chosen g es)) (condemneds ms)
-unfolding accept_of or_on
+unfolding accept_of
 accept-is g es ms n = rw (accept_terms_lem g es ms) (and_all_lem (terms_of 1 (marks (chosen g es)) (condemneds ms)) n)
 
 -- 5. checked: an edge that is not terminal has no gate, and its key keeps its literal out of the chain
@@ -148,7 +148,7 @@ alives-are g (e ∷ es) [] n = record { gates = refl; outs = refl }
 alives-are g (e ∷ es) (m ∷ ms) n = alive-more (is_terminal g e) m (terminal_twos g es ms) (marks (chosen g es)) (happies ms) (condemneds ms) n (alives-are g es ms n) (alives-are g es ms (suc n))
 
 checked-is : (g : Graph) (es : List Edge) (ms : List Two) (n : ℕ) → checked_from n (terminal_twos g es ms) ≡ checked_of n (marks (chosen g es)) (happies ms) (condemneds ms)
-unfolding checked_of or_on
+unfolding checked_of
 checked-is g es ms n = let a = alives-are g es ms n in rw (a.gates, a.outs)
 
 -- ---- the whole
@@ -168,18 +168,19 @@ module _ (checked : Bool) (s vertices : ℕ) (es : List Edge) (l f n : ℕ) {ts 
   unfolding monitor_gates
   monitor_parts = record { is = rw (e, et, ee) }
 
-  pub monitor_made : {before out out2 : List ℕ} {r : Outputs} {hs ds : List ℕ} → Added f before out f n (gather_gates ts vertices edges l f) →
-      JudgeMade checked f out out2 n r hs ds s (gather_of ts vertices edges l f).happy (gather_of ts vertices edges l f).condemned (marks es) es →
-      MonitorMade checked f before out2 r hs ds s vertices es l
-  unfolding monitor_ends monitor_edges
-  monitor_made g j =
-      record {
-        gates = whole_of monitor_parts g j.gates;
-        accepts = rw (e, et, ee) at j.accepts;
-        seconds = rw (e, et, ee) at j.seconds;
-        happies = rw (e, et, ee) at j.happies;
-        condemneds = rw (e, et, ee) at j.condemneds;
-      }
+pub monitor_made : (checked : Bool) (s vertices : ℕ) (es : List Edge) (l : ℕ) {ts : List ℕ} {edges : ℕ} → ts ≡ targets es → edges ≡ length es → {a b c : Gates} {r : Outputs} {hs ds : List ℕ}
+    → Added a b (gather_gates ts vertices edges l a.next.0)
+    → JudgeMade checked b c r hs ds s (gather_of ts vertices edges l a.next.0).happy (gather_of ts vertices edges l a.next.0).condemned (marks es) es
+    → MonitorMade checked a c r hs ds s vertices es l
+unfolding monitor_ends monitor_edges
+monitor_made checked s vertices es l et ee {a} g j =
+    record {
+      gates = whole_of (monitor_parts checked s vertices es l a.next.0 _ et ee g.count) g j.gates;
+      accepts = rw (g.count, et, ee) at j.accepts;
+      seconds = rw (g.count, et, ee) at j.seconds;
+      happies = rw (g.count, et, ee) at j.happies;
+      condemneds = rw (g.count, et, ee) at j.condemneds;
+    }
 
 pairs_are : (ts : List Two) → edge_latches ts ≡ edge_pairs (happies ts) (condemneds ts)
 pairs_are [] = refl
@@ -265,7 +266,7 @@ module _ (g : Graph) where
   gates-are true = rw (gates_of_lem, checked_piece_lem, append_assoc before (arcs.gates ++ accept.gates) _, append_assoc arcs.gates accept.gates _)
   gates-are false = gates_of_lem
 
-  pub outputs-are : (checked : Bool) → outputs_with checked g ≡ outputs_of checked (monitor_ends checked s v cs l f).accept (monitor_ends checked s v cs l f).second
+  pub outputs-are : (checked : Bool) → outputs_with checked g ≡ outputs_of (monitor_ends checked s v cs l f).accept (monitor_ends checked s v cs l f).second
   unfolding monitor_ends ends_after monitor_edges ends_of
   outputs-are true = rw (accepted-is, checked_piece_lem)
   outputs-are false = rw accepted-is

@@ -1,15 +1,18 @@
 -- The gates counted by the arrays of a checked graph are those of its formula. Assumes nothing.
 use mathlib.Core.Path.{◌≡◌, refl, sym, ap, ◌∙◌}
-use mathlib.Core.Bool.{Bool, true, false, cond}
+use mathlib.Core.Bool.{Bool, true, false, cond, ◌||◌}
 use mathlib.Core.List.{List, [], ◌∷◌, ◌++◌}
 use mathlib.Core.Logic.{⊎_elim}
 use Prim.Native.Nat.{ℕ, zero, suc, ◌+◌, ◌-◌, ◌*◌, ◌/◌, ◌≤◌, ◌<◌}
-use native.Mathlib.Nat.{add-zero}
+use Rattle.std.proofs.Common.{min, Some}
 use native.Mathlib.Numerals.{add-one}
 use native.Mathlib.Omega.{arith}
-use borrow.Author.Tests.{eq-eqb, ne_eqb, eqb-true, lt-ltb, le-ltb}
+use borrow.Author.Tests.{ne_eqb, eqb-true, lt-ltb, le-ltb}
 use lib.Dec.{eqb, ltb}
-use lib.ListN.{length, get_or, take, drop, replicate, length-append, get_or-append}
+use lib.ListN.{length, get_or, take, replicate, length-append, length-take}
+use lib.Seq.{take_at, get_or-take}
+use Rattle.std.specs.List.{sum_by, count_by, range_with_len}
+use Rattle.std.proofs.lemmas.List.Sums.{sum_by-cons, sum_by-append, sum_by_push}
 use Rattle.assertion.specs.Graph.{Bytes, Run, Expr, Name, truth, signal, constant, neg, conj, disj, xor, same, Edge, Graph, bits_of, is_terminal}
 use Rattle.assertion.specs.Graph as G
 use Rattle.formula.specs.declared.Formula.{Formula}
@@ -18,42 +21,26 @@ use Rattle.formula.specs.Classes.{pick, strength_of, start_of}
 use Rattle.formula.specs.Grammar.{Tree, name, bit_of, alike, bit, not, group, join, Parsed, none, tree, tree_of}
 use Rattle.formula.specs.Reading.{name_word, bit_word, alike_word, byte_word, postfix, padded, answer_of, formula_of}
 use Rattle.formula.proofs.PostfixLaws.{NameIn, InField, name-place, name-length, name_word-small, byte_word-large, byte_word-back, byte_word-small, bit_word-large, bit_word-small, alike_word-large, alike_word-left, field-short, in_field, words-few}
-use Rattle.graph.specs.Pieces.{Declared, placed, look_up_name}
+use Rattle.graph.specs.Pieces.{Declared, placed, place_in, width_in}
 use Rattle.graph.specs.Reading.{joined, symbol, run_of, found_at, names_of, resolved, accepted, graph_of}
-use Rattle.graph.specs.Private.Steps.{EachNarrow, listed, name_found}
+use Rattle.graph.specs.Private.Steps.{listed, name_found}
 use Rattle.graph.specs.Held.{held_as, held_of, no_arc}
 use Rattle.graph.specs.declared.Arc.{Arc}
 use Rattle.graph.specs.declared.CheckedGraph.{CheckedGraph}
-use Rattle.graph.specs.declared.FoundName.{FoundName}
 use Rattle.graph.specs.Claims.{FormulaAt, FormulaSound, EdgeSound, Sound}
 use Rattle.graph.proofs.HeldLaws.{sound}
-use Rattle.graph.proofs.WordLaws.{found_narrow}
 use Rattle.circuit.specs.Count.{formula_gates, all_formula_gates, incoming, entered, terminals, gate_formula, gate_formula_with}
-use Rattle.builder.specs.Private.Machine.{Bounded, summed, byte_gates, word_gates, gates_at, read_gates, field_gates, arc_gates, goes_to, is_reached, terminal_at, gates_by}
+use Rattle.builder.specs.Private.Machine.{byte_gates, word_gates, read_gates, field_gates, arc_gates, is_reached, terminals_of, gates_by}
 use Rattle.builder.proofs.FormulaLaws.{bit_is}
 
--- ---- a loop that adds: what is left has one term less, and none at the end
-module _ (f : ℕ → ℕ) where
-  pub summed_step : (i n : ℕ) → i < n → summed f i (n - i) ≡ f i + summed f (i + 1) (n - (i + 1))
-  unfolding summed
-  summed_step i n l = let z : n - i ≡ suc (n - (i + 1)) = omega arith in rw (z, add-one i)
-
-  pub summed_end : (i n : ℕ) → n ≤ i → summed f i (n - i) ≡ 0
-  unfolding summed
-  summed_end i n l = let z : n - i ≡ 0 = omega arith in rw z
-
-  pub summed-whole : (n : ℕ) → summed f 0 (n - 0) ≡ summed f 0 n
-  summed-whole n = let z : n - 0 ≡ n = omega arith in ap (summed f 0) z
-
--- the sum over a list, term by term
-module _ {A : Type 0} (g : A → ℕ) (total : List A → ℕ) (zero_is : total [] ≡ 0) (more : (x : A) (l : List A) → total (x ∷ l) ≡ g x + total l) (f : ℕ → ℕ) (d : A) where
-  pub summed_list : (l : List A) (j : ℕ) → ((i : ℕ) → i < length l → f (j + i) ≡ g (get_or l i d)) → summed f j (length l) ≡ total l
-  unfolding summed
-  summed_list [] j h = sym zero_is
-  summed_list (x ∷ l) j h =
-      let a : f j ≡ g x = rw (add-zero j) at (h 0 (omega arith)) in
-      let b : summed f (suc j) (length l) ≡ total l = summed_list l (suc j) (λ i k. let z : suc j + i ≡ j + suc i = omega arith in rw z (h (suc i) (omega arith))) in
-      rw (a, b) (sym (more x l))
+-- the sum over a list, term by term that of another
+module _ {A B : Type 0} (g : A → ℕ) (h : B → ℕ) (total : List B → ℕ) (zero_is : total [] ≡ 0) (more : (y : B) (l : List B) → total (y ∷ l) ≡ h y + total l) (d : A) (e : B) where
+  pub same_sums : (l : List A) (m : List B) → length l ≡ length m → ((i : ℕ) → i < length m → g (get_or l i d) ≡ h (get_or m i e)) → sum_by g l ≡ total m
+  same_sums [] [] k like = sym zero_is
+  same_sums [] (y ∷ m) k like = absurd (omega arith)
+  same_sums (x ∷ l) [] k like = absurd (omega arith)
+  same_sums (x ∷ l) (y ∷ m) k like =
+      rw (sum_by-cons g x l, like 0 (omega arith), same_sums l m (omega arith) (λ i n. like (suc i) (omega arith))) (sym (more y m))
 
 -- ---- one word
 module _ (b : ℕ) where
@@ -90,67 +77,22 @@ module _ (ns : List Declared) (s : Bytes) (w : ℕ) where
   unfolding word_gates
   gates-bit l h = rw (le-ltb w 4096 (omega arith), le-ltb w 8192 l, lt-ltb w 16777216 h)
 
-  pub gates-alike : {x : FoundName} → 16777216 ≤ w → x ≡ name_found ns s ((w - 16777216) / 4096) → word_gates ns s w ≡ 4 * x.width - 1
+  pub gates-alike : 16777216 ≤ w → word_gates ns s w ≡ 4 * width_in (name_found ns s ((w - 16777216) / 4096)) - 1
   unfolding word_gates
-  gates-alike l e = rw (le-ltb w 4096 (omega arith), le-ltb w 8192 (omega arith), le-ltb w 16777216 l, ← e)
-
--- a name looked up has 16 bits at most
-bounded_narrow : (ns : List Declared) → Bounded ns → EachNarrow ns
-bounded_narrow [] b = tt
-bounded_narrow (d ∷ ds) b = (b.1, bounded_narrow ds b.2)
-
-pub width_few : (ns : List Declared) (n : Bytes) {x : FoundName} → Bounded ns → x ≡ look_up_name n ns → x.width ≤ 16
-width_few ns n b e = rw e (found_narrow n ns (bounded_narrow ns b))
-
--- the loop over the words goes on
-module _ (ns : List Declared) (s : Bytes) (words : List ℕ) (i n : ℕ) where
-  at-word : {x : ℕ} → x ≡ word_gates ns s (get_or words i 0) → x ≡ gates_at ns s words i
-  unfolding gates_at
-  at-word e = e
-
-  pub word-counted : {x : ℕ} → i < n → x ≡ word_gates ns s (get_or words i 0) → summed (gates_at ns s words) i (n - i) ≡ x + summed (gates_at ns s words) (i + 1) (n - (i + 1))
-  word-counted l e = rw (at-word e) (summed_step (gates_at ns s words) i n l)
-
--- ---- one edge
-pub terminal-counted : (arcs : List Arc) (i n : ℕ) {t : Bool} → i < n → t ≡ (get_or arcs i no_arc).terminal → summed (terminal_at arcs) i (n - i) ≡ cond t 1 0 + summed (terminal_at arcs) (i + 1) (n - (i + 1))
-unfolding terminal_at
-terminal-counted arcs i n l e = summed_step (terminal_at arcs) i n l ∙ rw e
-
-pub gates-counted : (text : Bytes) (ns : List Declared) (arcs : List Arc) (i n : ℕ) {a : Arc} {x : ℕ} → i < n → a ≡ get_or arcs i no_arc → x ≡ field_gates text ns a.left a.lefts + field_gates text ns a.right a.rights → summed (arc_gates text ns arcs) i (n - i) ≡ x + summed (arc_gates text ns arcs) (i + 1) (n - (i + 1))
-unfolding arc_gates
-gates-counted text ns arcs i n {a} {x} l e k = summed_step (arc_gates text ns arcs) i n l ∙ rw (← e, ← k)
-
-module _ (arcs : List Arc) (v i n : ℕ) (l : i < n) where
-  -- the first that goes to v
-  pub goes : {t : ℕ} → t ≡ (get_or arcs i no_arc).to → t ≡ v → 1 ≤ summed (goes_to arcs v) i (n - i)
-  unfolding goes_to
-  goes e k = omega (arith, summed_step (goes_to arcs v) i n l, ap (λ (b : Bool). cond {A = ℕ} b 1 0) (eq-eqb (get_or arcs i no_arc).to v (sym e ∙ k)))
-
-  pub goes_not : {t : ℕ} → t ≡ (get_or arcs i no_arc).to → (t ≡ v → ⊥) → summed (goes_to arcs v) i (n - i) ≡ summed (goes_to arcs v) (i + 1) (n - (i + 1))
-  unfolding goes_to
-  goes_not e k = omega (arith, summed_step (goes_to arcs v) i n l, ap (λ (b : Bool). cond {A = ℕ} b 1 0) (ne_eqb (get_or arcs i no_arc).to v (λ q. k (e ∙ q))))
-
-pub reached_some : (arcs : List Arc) (edges v : ℕ) → 1 ≤ summed (goes_to arcs v) 0 edges → 1 ≡ is_reached arcs edges v
-unfolding is_reached
-reached_some arcs edges v h = omega arith
-
-pub reached_none : (arcs : List Arc) (edges v : ℕ) → summed (goes_to arcs v) 0 edges ≡ 0 → 0 ≡ is_reached arcs edges v
-unfolding is_reached
-reached_none arcs edges v h = omega arith
+  gates-alike l = rw (le-ltb w 4096 (omega arith), le-ltb w 8192 (omega arith), le-ltb w 16777216 l)
 
 -- ---- one field
-read-few : (t : Parsed) (s : Bytes) → tree_of s ≡ t → ((answer_of t).count ≤ 255) × ((answer_of t).count ≤ length (answer_of t).words)
+read-few : (t : Parsed) (s : Bytes) {f : Formula} → tree_of s ≡ t → answer_of t ≡ Some f → (f.count ≤ 255) × (f.count ≤ length f.words)
 unfolding answer_of padded
-read-few none s h = (omega arith, omega arith)
-read-few (tree e) s h = (words-few s e h, omega (arith, length-append (postfix e) (replicate (255 - length (postfix e)) 0)))
+read-few none s h e = cc
+read-few (tree t) s {f} h e =
+    let count : f.count ≡ length (postfix t) = cc in
+    let words : f.words ≡ postfix t ++ replicate (255 - length (postfix t)) 0 = cc in
+    rw (count, words) (words-few s t h, omega (arith, length-append (postfix t) (replicate (255 - length (postfix t)) 0)))
 
-pub words-room : (s : Bytes) {f : Formula} → f ≡ formula_of s → (f.count ≤ 255) × (f.count ≤ length f.words)
+pub words-room : (s : Bytes) {f : Formula} → formula_of s ≡ Some f → (f.count ≤ 255) × (f.count ≤ length f.words)
 unfolding formula_of
-words-room s e = rw e (read-few (tree_of s) s refl)
-
-pub field-counted : (text : Bytes) (ns : List Declared) (at n : ℕ) {field : Bytes} {f : Formula} {x : ℕ} → field ≡ take n (drop at text) → f ≡ formula_of field → x ≡ summed (gates_at ns field f.words) 0 f.count → x ≡ field_gates text ns at n
-unfolding field_gates read_gates
-field-counted text ns at n p e k = k ∙ rw (e, p)
+words-room s e = read-few (tree_of s) s refl e
 
 -- ---- the words of a tree
 plain_byte : (b : ℕ) → start_of b ≡ Bit → byte_gates b ≡ 0
@@ -209,29 +151,18 @@ joined-gates b x y h = at (eqb b 38) (eqb b 124) (eqb b 94) (eqb b 61) h
 -- the words of a formula in the field s, ns the names
 module _ (ns : List Declared) (s : Bytes) where
   abbrev all_words : List ℕ → ℕ
-  all_words [] = 0
-  all_words (w ∷ ws) = word_gates ns s w + all_words ws
-
-  all_append : (a b : List ℕ) → all_words (a ++ b) ≡ all_words a + all_words b
-  all_append [] b = omega arith
-  all_append (w ∷ a) b = omega (arith, all_append a b)
+  all_words = sum_by (word_gates ns s)
 
   byte_gates_lem : (b : ℕ) → b < 256 → word_gates ns s (byte_word b) ≡ byte_gates b
   byte_gates_lem b h = gates-byte ns s (byte_word b) (byte_word-large b) (byte_word-small b h) ∙ ap byte_gates (byte_word-back b)
 
   -- a word of a byte after others
   all-byte : (a : List ℕ) (b : ℕ) → b < 256 → all_words (a ++ (byte_word b ∷ [])) ≡ all_words a + byte_gates b
-  all-byte a b h = omega (arith, all_append a (byte_word b ∷ []), byte_gates_lem b h)
-
-  words-gates : (ws more : List ℕ) → summed (gates_at ns s (ws ++ more)) 0 (length ws) ≡ all_words ws
-  unfolding gates_at
-  words-gates ws more =
-      summed_list (word_gates ns s) all_words refl (λ x l. refl) (gates_at ns s (ws ++ more)) 0 ws 0
-      (λ i l. let z : 0 + i ≡ i = omega arith in rw (z, get_or-append ws more 0 i l))
+  all-byte a b h = sum_by_push (word_gates ns s) a (byte_word b) ∙ ap (λ (n : ℕ). all_words a + n) (byte_gates_lem b h)
 
   read_gates_lem : (e : Tree) → tree_of s ≡ tree e → read_gates ns s (formula_of s) ≡ all_words (postfix e)
   unfolding read_gates formula_of answer_of padded
-  read_gates_lem e h = rw h (words-gates (postfix e) (replicate (255 - length (postfix e)) 0))
+  read_gates_lem e h = rw h (ap all_words (take_at (postfix e) (replicate (255 - length (postfix e)) 0) (length (postfix e)) refl))
 
   module _ (m : ℕ) (short : length s ≤ 255) where
     word_small : (p n : ℕ) → NameIn s p n → name_word p n < 4096
@@ -243,15 +174,16 @@ module _ (ns : List Declared) (s : Bytes) where
     tree-gates : (e : Tree) → InField s e → all_words (postfix e) ≡ formula_gates (resolved m ns s e)
     unfolding postfix resolved
     tree-gates (name p n) h =
-        omega (arith, gates-name ns s (name_word p n) (word_small p n h), symbol-gates m (found_at ns s p n).place)
+        omega (arith, gates-name ns s (name_word p n) (word_small p n h), symbol-gates m (place_in (found_at ns s p n)))
     tree-gates (bit_of p n i) h =
-        omega (arith, gates-bit ns s (bit_word p n i) (bit_word-large p n i) (bit_word-small p n i (word_small p n h)), symbol-gates m ((found_at ns s p n).place + i))
+        omega (arith, gates-bit ns s (bit_word p n i) (bit_word-large p n i) (bit_word-small p n i (word_small p n h)), symbol-gates m ((place_in (found_at ns s p n)) + i))
     tree-gates (alike p n q k) h =
         let l = found_at ns s p n in
         omega (
           arith,
-          gates-alike ns s (alike_word p n q k) (alike_word-large p n q k) (left-found p n q k h.0 h.1),
-          alike-gates (run_of m l.place) (run_of m (found_at ns s q k).place) l.width,
+          gates-alike ns s (alike_word p n q k) (alike_word-large p n q k),
+          ap width_in (left-found p n q k h.0 h.1),
+          alike-gates (run_of m (place_in l)) (run_of m (place_in (found_at ns s q k))) (width_in l),
         )
     tree-gates (bit b) h = omega (arith, byte_gates_lem b (bit-small b h), plain_byte b h, truth-gates (eqb b 49))
     tree-gates (not e) h = omega (arith, all-byte (postfix e) 33 (omega arith), not_byte, tree-gates e h, neg-gates (resolved m ns s e))
@@ -260,7 +192,7 @@ module _ (ns : List Declared) (s : Bytes) where
         omega (
           arith,
           all-byte (postfix e ++ postfix e2) b (operator_small b h.0),
-          all_append (postfix e) (postfix e2),
+          sum_by-append (word_gates ns s) (postfix e) (postfix e2),
           tree-gates e h.1,
           tree-gates e2 h.2,
           joined-gates b (resolved m ns s e) (resolved m ns s e2) h.0,
@@ -287,37 +219,55 @@ no_edge =
       consequent_text = [];
     }
 
+module _ (v : ℕ) where
+  reached_step : (b : Bool) (l : List Arc) (es : List Edge) → cond (is_reached l v) 1 0 ≡ min 1 (incoming v es) → cond (b || is_reached l v) 1 0 ≡ min 1 (cond b 1 0 + incoming v es)
+  reached_step true l es h = omega arith
+  reached_step false l es h = omega arith
+
+  reached-as : (l : List Arc) (es : List Edge) → length l ≡ length es → ((i : ℕ) → i < length es → (get_or l i no_arc).to ≡ (get_or es i no_edge).to)
+      → cond (is_reached l v) 1 0 ≡ min 1 (incoming v es)
+  reached-as [] [] k h = refl
+  reached-as [] (e ∷ es) k h = absurd (omega arith)
+  reached-as (a ∷ l) [] k h = absurd (omega arith)
+  reached-as (a ∷ l) (e ∷ es) k h =
+      let e0 : a.to ≡ e.to = h 0 (omega arith) in
+      rw e0 (reached_step (eqb e.to v) l es (reached-as l es (omega arith) (λ i n. h (suc i) (omega arith))))
+
 module _ (text : Bytes) {graph : Graph} (s : Sound text graph) where
   abbrev edges_sound : (i : ℕ) → i < length graph.edges → EdgeSound text graph.signals graph.constants graph.vertices (is_terminal graph (get_or graph.edges i no_edge)) (get_or (held_of text graph).arcs i no_arc) (get_or graph.edges i no_edge)
   edges_sound i l = s.edge_at i no_edge l
 
-  incoming-is : (v : ℕ) → summed (goes_to (held_of text graph).arcs v) 0 (length graph.edges) ≡ incoming v graph.edges
-  unfolding goes_to
-  incoming-is v =
-      summed_list (λ e. cond (eqb e.to v) 1 0) (incoming v) refl (λ e es. refl) (goes_to (held_of text graph).arcs v) no_edge graph.edges 0
-      (λ i l. let z : 0 + i ≡ i = omega arith in rw (z, (edges_sound i l).to_is))
+  abbrev arcs : List Arc
+  arcs = take (length graph.edges) (held_of text graph).arcs
 
-  entered-is : (k v : ℕ) → summed (is_reached (held_of text graph).arcs (length graph.edges)) v k ≡ entered v k graph.edges
-  unfolding summed is_reached
+  arcs-many : length arcs ≡ length graph.edges
+  arcs-many = rw length-take (omega (arith, s.arcs-long, s.edges_few))
+
+  abbrev arc_at : (i : ℕ) → i < length graph.edges → get_or arcs i no_arc ≡ get_or (held_of text graph).arcs i no_arc
+  arc_at i l = get_or-take (length graph.edges) (held_of text graph).arcs i no_arc l
+
+  -- an edge goes to v where one or more do
+  reached-is : (v : ℕ) → cond (is_reached arcs v) 1 0 ≡ min 1 (incoming v graph.edges)
+  reached-is v = reached-as v arcs graph.edges arcs-many (λ i l. rw arc_at (edges_sound i l).to_is)
+
+  entered-is : (k v : ℕ) → count_by (is_reached arcs) (range_with_len v k) ≡ entered v k graph.edges
   entered-is zero v = refl
-  entered-is (suc k) v = rw (incoming-is v, entered-is k (suc v))
+  entered-is (suc k) v = rw (sum_by-cons (λ x. cond (is_reached arcs x) 1 0) v (range_with_len (v + 1) k), add-one v, reached-is v, entered-is k (suc v))
 
-  terminals-is : summed (terminal_at (held_of text graph).arcs) 0 (length graph.edges) ≡ terminals graph graph.edges
-  unfolding terminal_at
+  terminals-is : terminals_of arcs ≡ terminals graph graph.edges
   terminals-is =
-      summed_list (λ e. cond (is_terminal graph e) 1 0) (terminals graph) refl (λ e es. refl) (terminal_at (held_of text graph).arcs) no_edge graph.edges 0
-      (λ i l. let z : 0 + i ≡ i = omega arith in rw (z, (edges_sound i l).terminal-is))
+      same_sums (λ a. cond a.terminal 1 0) (λ e. cond (is_terminal graph e) 1 0) (terminals graph) refl (λ e es. refl) no_arc no_edge arcs graph.edges arcs-many
+      (λ i l. rw (arc_at, (edges_sound i l).terminal-is))
 
-  formulas_is : summed (arc_gates text (names_of graph) (held_of text graph).arcs) 0 (length graph.edges) ≡ all_formula_gates graph.edges
+  formulas_is : sum_by (arc_gates text (names_of graph)) arcs ≡ all_formula_gates graph.edges
   unfolding arc_gates
   formulas_is =
-      summed_list (λ e. formula_gates e.antecedent + formula_gates e.consequent) all_formula_gates refl (λ e es. refl) (arc_gates text (names_of graph) (held_of text graph).arcs) no_edge graph.edges 0
+      same_sums (arc_gates text (names_of graph)) (λ e. formula_gates e.antecedent + formula_gates e.consequent) all_formula_gates refl (λ e es. refl) no_arc no_edge arcs graph.edges arcs-many
       (λ i l.
-      let z : 0 + i ≡ i = omega arith in
       let w = edges_sound i l in
       let a = get_or (held_of text graph).arcs i no_arc in
       let e = get_or graph.edges i no_edge in
-      rw (z, formula_gates_lem text a.left a.lefts graph.signals graph.constants e.antecedent_text e.antecedent w.antecedent-at w.antecedent_sound, formula_gates_lem text a.right a.rights graph.signals graph.constants e.consequent_text e.consequent w.consequent-at w.consequent_sound))
+      rw (arc_at, formula_gates_lem text a.left a.lefts graph.signals graph.constants e.antecedent_text e.antecedent w.antecedent-at w.antecedent_sound, formula_gates_lem text a.right a.rights graph.signals graph.constants e.consequent_text e.consequent w.consequent-at w.consequent_sound))
 
   edges-held : (held_of text graph).edges ≡ length graph.edges
   unfolding held_of held_as

@@ -1,4 +1,5 @@
 -- DEMAND 3 of what build leaves and answers. Assumes nothing.
+use Rattle.std.specs.Prelude.{Ok, Err}
 use mathlib.Core.Path.{◌≡◌, refl, sym, ap, subst, ◌∙◌}
 use mathlib.Core.Bool.{Bool, true, false, cond, not}
 use mathlib.Core.List.{List, [], ◌++◌, append-nil}
@@ -21,7 +22,6 @@ use Rattle.circuit.proofs.CheckedGates.{checked-means}
 use Rattle.demand.proofs.Demand.{demand3}
 use Rattle.demand.proofs.Forms.{either_form}
 use Rattle.builder.specs.declared.Cause.TheVariants.{GraphText, TooManyVariables, ShortBuffer}
-use Rattle.builder.specs.declared.Built.TheVariants.{Gates, Refused}
 use Rattle.builder.specs.Build.{refusal_of, variables_of, BuildEnd, build_end, build_as, build_of}
 use Rattle.builder.specs.Claims.{gates_due, variables_due, numbers_due, BuildMeans}
 use Rattle.builder.proofs.GraphLaws.{fits}
@@ -38,19 +38,19 @@ module _ (checked : Bool) (g : Graph) (net : List ℕ) where
   numbers = numbers_with checked g
 
   abbrev many : BuildEnd
-  many = build_end (Refused TooManyVariables) net
+  many = build_end (Err TooManyVariables) net
 
   abbrev short : BuildEnd
-  short = build_end (Refused ShortBuffer) net
+  short = build_end (Err ShortBuffer) net
 
   abbrev last : BuildEnd
-  last = build_end (Gates (length (gates_with checked g))) (numbers ++ drop (length numbers) net)
+  last = build_end (Ok (length (gates_with checked g))) (numbers ++ drop (length numbers) net)
 
-  made_so : (made : ℕ) → (build_as checked (accepted g) net).answer ≡ Gates made → Made checked g net made (build_as checked (accepted g) net)
+  made_so : (made : ℕ) → (build_as checked (accepted g) net).answer ≡ Ok made → Made checked g net made (build_as checked (accepted g) net)
   unfolding build_as
   made_so made = go (leb (variables_of checked g) 4095) refl (leb (length numbers) (length net))
     where
-      go : (a : Bool) → leb (variables_of checked g) 4095 ≡ a → (b : Bool) → (cond (not a) many (cond (not b) short last)).answer ≡ Gates made
+      go : (a : Bool) → leb (variables_of checked g) 4095 ≡ a → (b : Bool) → (cond (not a) many (cond (not b) short last)).answer ≡ Ok made
           → Made checked g net made (cond (not a) many (cond (not b) short last))
       go false h b e = let z : ◌≡◌ {A = ℕ} 0 1 = cc in absurd (omega arith)
       go true h false e = let z : ◌≡◌ {A = ℕ} 0 1 = cc in absurd (omega arith)
@@ -73,7 +73,7 @@ module _ (checked : Bool) (g : Graph) (net : List ℕ) where
         outs true = refl
         outs false = refl
 
-    built : variables_due checked g ≤ 4095 → numbers_due checked g ≤ length net → (build_as checked (accepted g) net).answer ≡ Gates (gates_due checked g)
+    built : variables_due checked g ≤ 4095 → numbers_due checked g ≤ length net → (build_as checked (accepted g) net).answer ≡ Ok (gates_due checked g)
     unfolding build_as
     built m l = rw (le-leb (variables_of checked g) 4095 (omega (arith, due)), le-leb (length numbers) (length net) (omega (arith, size)), count)
 
@@ -85,7 +85,7 @@ module _ (checked : Bool) (g : Graph) (net : List ℕ) where
     unfolding build_as
     too_many m = rw (lt-leb (variables_of checked g) 4095 (omega (arith, due)))
 
-unread-text : (checked : Bool) (cause : graph.Cause) (net : List ℕ) → build_as checked (refused cause) net ≡ build_end (Refused (GraphText cause)) net
+unread-text : (checked : Bool) (cause : graph.Cause) (net : List ℕ) → build_as checked (refused cause) net ≡ build_end (Err (GraphText cause)) net
 unfolding build_as
 unread-text checked cause net = refl
 
@@ -109,8 +109,8 @@ build_means checked text net =
       forms = either_form;
     }
   where
-    so : (g : Graph) (made : ℕ) → graph_of text ≡ accepted g → (build_as checked (graph_of text) net).answer ≡ Gates made → Made checked g net made (build_as checked (accepted g) net)
-    so g made e a = made_so checked g net made (subst (λ o. (build_as checked o net).answer ≡ Gates made) e a)
+    so : (g : Graph) (made : ℕ) → graph_of text ≡ accepted g → (build_as checked (graph_of text) net).answer ≡ Ok made → Made checked g net made (build_as checked (accepted g) net)
+    so g made e a = made_so checked g net made (subst (λ o. (build_as checked o net).answer ≡ Ok made) e a)
 
     small : (g : Graph) → variables_of checked g ≤ 4095 → length (gates_with checked g) + (1 + signal_bits g) + (constant_bits g + 2 * length g.edges) ≤ 4095
     small g h = omega arith

@@ -2,10 +2,10 @@
 use mathlib.Core.Path.{◌≡◌, refl, sym, ap, ◌∙◌}
 use mathlib.Core.Bool.{Bool, true, false}
 use mathlib.Core.List.{List, [], ◌∷◌, ◌++◌, map}
-use Prim.Native.Nat.{ℕ, zero, suc, ◌+◌, ◌≤◌, ◌<◌}
+use Prim.Native.Nat.{ℕ, suc, ◌+◌, ◌≤◌, ◌<◌}
 use native.Mathlib.Numerals.{add-one}
 use native.Mathlib.Omega.{arith}
-use lib.ListN.{length, get_or, take, drop, length-take, length-map}
+use lib.ListN.{length, get_or, take, drop, length-take, length-map, drop_of_length-le}
 use lib.Seq.{drop-cons, get_or-take}
 use Rattle.netlist.specs.Literals.{literal_of}
 use Rattle.assertion.specs.Graph.{Bytes, Edge, Graph, is_terminal}
@@ -44,10 +44,10 @@ module _ (s n : ℕ) (h d : ℕ) (e : Edge) (k m : ℕ) (ek : k ≡ n + length (
       rw (← ek, ← em, e1, e4) (refl, refl)
 
 -- an edge by its from-vertex's literals
-pub edge_at : (s n v : ℕ) (hs ds : List ℕ) (text : Bytes) (ns : List Declared) (a : Arc) → a.from < v →
-    edge_of s n (take v hs) (take v ds) (edge_in text ns s a) ≡ edge_piece s n (two (get_or hs a.from 0) (get_or ds a.from 0)) (edge_in text ns s a)
+pub edge_at : (s n : ℕ) (hs ds : List ℕ) (text : Bytes) (ns : List Declared) (a : Arc) →
+    edge_of s n hs ds (edge_in text ns s a) ≡ edge_piece s n (two (get_or hs a.from 0) (get_or ds a.from 0)) (edge_in text ns s a)
 unfolding edge_of edge_in
-edge_at s n v hs ds text ns a h = rw (get_or-take v hs a.from 0 h, get_or-take v ds a.from 0 h)
+edge_at s n hs ds text ns a = refl
 
 -- ---- the loop
 module _ (s : ℕ) (hs ds : List ℕ) where
@@ -61,33 +61,26 @@ module _ (s : ℕ) (hs ds : List ℕ) where
   edges_end n es h = rw h (refl, refl, refl)
 
 -- ---- the arcs from the i-th on
-module _ (arcs : List Arc) (count : ℕ) (long : count ≤ length arcs) where
-  pub arc_row : (i : ℕ) → i < count → drop i (take count arcs) ≡ get_or arcs i no_arc ∷ drop (i + 1) (take count arcs)
-  arc_row i h =
-      let n : i < length (take count arcs) = rw length-take (omega arith) in
-      rw (add-one, drop-cons (take count arcs) i no_arc n, get_or-take count arcs i no_arc h)
+module _ (arcs : List Arc) where
+  arc_row : (i : ℕ) → i < length arcs → drop i arcs ≡ get_or arcs i no_arc ∷ drop (i + 1) arcs
+  arc_row i h = rw (add-one, drop-cons arcs i no_arc h)
 
-  pub arcs_end : (i : ℕ) → count ≤ i → drop i (take count arcs) ≡ []
-  arcs_end i h = past (take count arcs) i (rw length-take (omega arith))
-    where
-      past : (l : List Arc) (j : ℕ) → length l ≤ j → drop j l ≡ []
-      past [] zero p = refl
-      past [] (suc j) p = refl
-      past (x ∷ l) zero p = absurd (omega arith)
-      past (x ∷ l) (suc j) p = past l j (omega arith)
-
-  pub edges-row : (text : Bytes) (ns : List Declared) (s i : ℕ) → i < count →
-      edges_from text ns s (drop i (take count arcs)) ≡ edge_in text ns s (get_or arcs i no_arc) ∷ edges_from text ns s (drop (i + 1) (take count arcs))
-  edges-row text ns s i h = rw (arc_row i h)
-
-  pub edges_none : (text : Bytes) (ns : List Declared) (s i : ℕ) → count ≤ i → edges_from text ns s (drop i (take count arcs)) ≡ []
-  edges_none text ns s i h = rw (arcs_end i h)
-
-  pub targets-row : (i : ℕ) → i < count → arc_targets (drop i (take count arcs)) ≡ (get_or arcs i no_arc).to ∷ arc_targets (drop (i + 1) (take count arcs))
+  pub targets-row : (i : ℕ) → i < length arcs → arc_targets (drop i arcs) ≡ (get_or arcs i no_arc).to ∷ arc_targets (drop (i + 1) arcs)
   targets-row i h = rw (arc_row i h)
 
-  pub marks-row : (i : ℕ) → i < count → arc_marks (drop i (take count arcs)) ≡ mark_of (get_or arcs i no_arc).terminal ∷ arc_marks (drop (i + 1) (take count arcs))
+  pub marks-row : (i : ℕ) → i < length arcs → arc_marks (drop i arcs) ≡ mark_of (get_or arcs i no_arc).terminal ∷ arc_marks (drop (i + 1) arcs)
   marks-row i h = rw (arc_row i h)
+
+  module _ (count : ℕ) (long : count ≤ length arcs) (text : Bytes) (ns : List Declared) (s i : ℕ) where
+    pub edges-row : i < count → edges_from text ns s (drop i (take count arcs)) ≡ edge_in text ns s (get_or arcs i no_arc) ∷ edges_from text ns s (drop (i + 1) (take count arcs))
+    edges-row h =
+        let n : i < length (take count arcs) = rw length-take (omega arith) in
+        rw (add-one, drop-cons (take count arcs) i no_arc n, get_or-take count arcs i no_arc h)
+
+    pub edges_none : count ≤ i → edges_from text ns s (drop i (take count arcs)) ≡ []
+    edges_none h =
+        let n : length (take count arcs) ≤ i = rw length-take (omega arith) in
+        rw (drop_of_length-le (take count arcs) n)
 
 -- ---- the columns of the edges
 targets-from : (text : Bytes) (ns : List Declared) (s : ℕ) (arcs : List Arc) → targets (edges_from text ns s arcs) ≡ arc_targets arcs
@@ -99,6 +92,14 @@ marks-from : (text : Bytes) (ns : List Declared) (s : ℕ) (arcs : List Arc) →
 unfolding edge_in
 marks-from text ns s [] = refl
 marks-from text ns s (a ∷ arcs) = ap (◌∷◌ (mark_of a.terminal)) (marks-from text ns s arcs)
+
+pub targets_length : (es : List Edge) → length (targets es) ≡ length es
+targets_length [] = refl
+targets_length (e ∷ es) = ap suc (targets_length es)
+
+pub marks_length : (es : List Edge) → length (marks es) ≡ length es
+marks_length [] = refl
+marks_length (e ∷ es) = ap suc (marks_length es)
 
 pub from-length : (text : Bytes) (ns : List Declared) (s : ℕ) (arcs : List Arc) → length (edges_from text ns s arcs) ≡ length arcs
 from-length text ns s [] = refl

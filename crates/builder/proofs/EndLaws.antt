@@ -1,7 +1,8 @@
 -- The numbers stored are the monitor's, and what a build answers by cases. Assumes nothing.
+use Rattle.std.specs.Prelude.{Ok, Err}
 use mathlib.Core.Path.{◌≡◌, refl, sym, ap, subst, ◌∙◌}
 use mathlib.Core.Bool.{Bool, true, false}
-use mathlib.Core.List.{List, [], ◌∷◌, ◌++◌, append_assoc}
+use mathlib.Core.List.{List, ◌++◌, append_assoc}
 use Prim.Native.Nat.{ℕ, ◌+◌, ◌-◌, ◌*◌, ◌≤◌, ◌<◌}
 use native.Mathlib.Nat.{add-zero}
 use native.Mathlib.Omega.{arith}
@@ -18,7 +19,6 @@ use Rattle.circuit.specs.Numbers.{constant_latches, operands, numbers_with}
 use Rattle.circuit.specs.Count.{gate_formula_with}
 use Rattle.circuit.proofs.CheckedCount.{count_with}
 use Rattle.builder.specs.declared.Cause.TheVariants.{TooManyVariables, ShortBuffer}
-use Rattle.builder.specs.declared.Built.TheVariants as built
 use Rattle.builder.specs.Build.{variables_of, build_end, build_as}
 use Rattle.builder.specs.Private.Edges.{GraphGood, Accepted}
 use Rattle.builder.specs.Private.Monitor.{outputs_asked, front_of, edge_pairs, gates_in, front_in, numbers_in, monitor_edges}
@@ -44,7 +44,7 @@ module _ (checked : Bool) (text : Bytes) {graph : Graph} (read : graph_of text �
       let C = constant_latches (2 + signal_bits graph) (constant_bits graph) in
       let O = outputs_with checked graph in
       let G = operands (gates_with checked graph) in
-      rw (gates_in_lem, held.edges-held text read, ← outputs-are graph checked, outputs-count checked graph, latches-are graph, append_assoc C (E ++ O) G, append_assoc E O G, add-zero (2 + signal_bits graph))
+      rw (gates_in_lem, held.edges-held text read, layout.second-is checked (signal_bits graph) (length graph.vertices) (chosen graph graph.edges) (first_edge_latch graph) (first_gate graph), ← outputs-are graph checked, outputs-count checked graph, latches-are graph, append_assoc C (E ++ O) G, append_assoc E O G, add-zero (2 + signal_bits graph))
 
 held_fields : (text : Bytes) (g : CheckedGraph) (graph : Graph) → g ≡ held_of text graph → (g.signals ≡ signal_bits graph) × (g.constants ≡ constant_bits graph) × (g.edges ≡ length graph.edges)
 unfolding held_of held_as
@@ -52,16 +52,16 @@ held_fields text g graph e = rw e (refl, refl, refl)
 
 -- ---- what a build answers
 module _ (checked : Bool) (graph : Graph) (net : List ℕ) where
-  many_of : 4095 < variables_of checked graph → build_end (built.Refused TooManyVariables) net ≡ build_as checked (accepted graph) net
+  many_of : 4095 < variables_of checked graph → build_end (Err TooManyVariables) net ≡ build_as checked (accepted graph) net
   unfolding build_as
   many_of h = rw (lt-leb (variables_of checked graph) 4095 h)
 
-  short_of : variables_of checked graph ≤ 4095 → length net < length (numbers_with checked graph) → build_end (built.Refused ShortBuffer) net ≡ build_as checked (accepted graph) net
+  short_of : variables_of checked graph ≤ 4095 → length net < length (numbers_with checked graph) → build_end (Err ShortBuffer) net ≡ build_as checked (accepted graph) net
   unfolding build_as
   short_of h l = rw (le-leb (variables_of checked graph) 4095 h, lt-leb (length (numbers_with checked graph)) (length net) l)
 
   done_of : {r : ℕ} {out : List ℕ} → variables_of checked graph ≤ 4095 → length (numbers_with checked graph) ≤ length net → r ≡ length (gates_with checked graph) →
-      out ≡ numbers_with checked graph ++ drop (length (numbers_with checked graph)) net → build_end (built.Gates r) out ≡ build_as checked (accepted graph) net
+      out ≡ numbers_with checked graph ++ drop (length (numbers_with checked graph)) net → build_end (Ok r) out ≡ build_as checked (accepted graph) net
   unfolding build_as
   done_of h l c o = rw (le-leb (variables_of checked graph) 4095 h, le-leb (length (numbers_with checked graph)) (length net) l, c, o)
 
@@ -98,18 +98,18 @@ module _ (text : Bytes) (g : CheckedGraph) (a : Accepted text g) where
     size = omega (arith, layout.numbers-length checked text g good)
 
     module _ (net : List ℕ) {r : ℕ} (c : r ≡ length (gates_in checked text g)) (graph : Graph) (q : graph_of text ≡ accepted graph) where
-      pub many : 4095 - (1 + g.signals + (g.constants + 2 * g.edges)) < r → build_end (built.Refused TooManyVariables) net ≡ build_as checked (accepted graph) net
+      pub many : 4095 - (1 + g.signals + (g.constants + 2 * g.edges)) < r → build_end (Err TooManyVariables) net ≡ build_as checked (accepted graph) net
       many h = many_of checked graph net (rw (same_graph graph q) at (let w : 4095 < variables_of checked a.graph = omega (arith, variables) in w))
 
       pub short : {o : ℕ} → o ≡ outputs_asked checked → r ≤ 4095 - (1 + g.signals + (g.constants + 2 * g.edges)) → length net < 5 + o + 2 * (g.constants + 2 * g.edges) + 2 * r →
-          build_end (built.Refused ShortBuffer) net ≡ build_as checked (accepted graph) net
+          build_end (Err ShortBuffer) net ≡ build_as checked (accepted graph) net
       short k h l =
           let few : variables_of checked a.graph ≤ 4095 = omega (arith, variables, good.signals, good.constants, good.edges) in
           let long : length net < length (numbers_with checked a.graph) = omega (arith, size, ap length numbers_of_lem) in
           short_of checked graph net (rw (same_graph graph q) at few) (rw (same_graph graph q) at long)
 
       pub done : {o made : ℕ} {out : List ℕ} → o ≡ outputs_asked checked → r ≤ 4095 - (1 + g.signals + (g.constants + 2 * g.edges)) → 5 + o + 2 * (g.constants + 2 * g.edges) + 2 * r ≤ length net →
-          made ≡ length (gates_in checked text g) → out ≡ numbers_in checked text g ++ drop (length (numbers_in checked text g)) net → build_end (built.Gates made) out ≡ build_as checked (accepted graph) net
+          made ≡ length (gates_in checked text g) → out ≡ numbers_in checked text g ++ drop (length (numbers_in checked text g)) net → build_end (Ok made) out ≡ build_as checked (accepted graph) net
       done k h l m o =
           let few : variables_of checked a.graph ≤ 4095 = omega (arith, variables, good.signals, good.constants, good.edges) in
           let long : length (numbers_with checked a.graph) ≤ length net = omega (arith, size, ap length numbers_of_lem) in

@@ -1,5 +1,6 @@
 -- The words of a formula, run over a stack of literals, make the formula's gates and its literal. Assumes
 -- nothing.
+use Rattle.std.specs.Prelude.{Result, Ok, Err, Some}
 use mathlib.Core.Path.{◌≡◌, refl, sym, ap, ◌∙◌}
 use mathlib.Core.Bool.{Bool, true, false}
 use mathlib.Core.List.{List, [], ◌∷◌, ◌++◌, append_assoc, append-nil, Memᴰ}
@@ -22,36 +23,32 @@ use Rattle.formula.specs.Reading.{name_word, bit_word, alike_word, byte_word, po
 use Rattle.formula.specs.Claims.{operators}
 use Rattle.formula.proofs.ByteLaws.{operator}
 use Rattle.formula.proofs.PostfixLaws.{NameIn, InField, name-place, name-length, name_word-small, byte_word-large, byte_word-small, byte_word-back, bit_word-large, bit_word-small, bit_word-name, bit_word-bit, alike_word-large, alike_word-left, alike_word-right, field-short, in_field, words-few}
-use Rattle.graph.specs.Pieces.{Declared, look_up_name}
+use Rattle.graph.specs.Pieces.{Declared, look_up_name, place_in, width_in}
+use Rattle.graph.specs.declared.Fault.{Fault}
 use Rattle.graph.specs.Pieces as pieces
 use Rattle.graph.specs.Private.Steps.{name_found}
 use Rattle.graph.specs.Reading.{found_at, known, fits, joined, symbol, resolved, judged_tree, judged_formula, tree_expr}
-use Rattle.graph.specs.declared.FoundName.{FoundName}
 use Rattle.graph.specs.declared.Fault.TheVariants.{TooDeep, UnknownName, WrongWidth}
-use Rattle.graph.specs.declared.Judged.TheVariants.{Fine, Faulty}
 use Rattle.circuit.specs.Gates.{lit, inv, Gate, Piece, and_of, or_of, xor_of, same_of, after}
 use Rattle.circuit.specs.Build.{formula}
+use Rattle.builder.specs.declared.gates.Gates.{Gates}
 use Rattle.builder.specs.Private.Adding.{Added, Room, Going, Splits}
-use Rattle.builder.specs.Private.Machine.{plain, Bounded, name_literal, alike_made, compared_by, operated, byte_made, word_made, taken_by, taken, Ran, ran, program, Enough, stack_of}
+use Rattle.builder.specs.Private.Machine.{plain, Bounded, name_literal, compared_by, operated, byte_made, word_made, taken_by, taken, Ran, ran, program, Enough, stack_of}
 use Rattle.builder.proofs.AddingLaws.{begin, go, done, going_room}
 use Rattle.builder.proofs.AlikeLaws.{alike_made_lem}
 
 -- ---- a name that is looked up
-look_up-bounded : (n : Bytes) (ns : List Declared) → Bounded ns → ((look_up_name n ns).place ≤ 69) × ((look_up_name n ns).width ≤ 16)
+look_up-bounded : (n : Bytes) (ns : List Declared) → Bounded ns → ((place_in (look_up_name n ns)) ≤ 69) × ((width_in (look_up_name n ns)) ≤ 16)
 unfolding look_up_name
 look_up-bounded n [] h = (omega arith, omega arith)
 look_up-bounded n (d ∷ ds) h = at (pieces.same n d.name) refl (look_up-bounded n ds h.2)
   where
-    at : (t : Bool) → pieces.same n d.name ≡ t → ((look_up_name n ds).place ≤ 69) × ((look_up_name n ds).width ≤ 16) → ((look_up_name n (d ∷ ds)).place ≤ 69) × ((look_up_name n (d ∷ ds)).width ≤ 16)
+    at : (t : Bool) → pieces.same n d.name ≡ t → ((place_in (look_up_name n ds)) ≤ 69) × ((width_in (look_up_name n ds)) ≤ 16) → ((place_in (look_up_name n (d ∷ ds))) ≤ 69) × ((width_in (look_up_name n (d ∷ ds))) ≤ 16)
     at true e i = rw (e, look_up_name) (omega (arith, h.0), h.1)
     at false e i = rw (e, look_up_name) i
 
-pub found-bounded : (ns : List Declared) (s : Bytes) (w : ℕ) {x : FoundName} → Bounded ns → x ≡ name_found ns s w → (x.place ≤ 69) × (x.width ≤ 16)
-found-bounded ns s w h e = rw e (look_up-bounded (take (w % 16) (drop (w / 16) s)) ns h)
-
-pub compared_is : (ns : List Declared) (s : Bytes) (w n : ℕ) {x y : FoundName} → x ≡ name_found ns s ((w - 16777216) / 4096) → y ≡ name_found ns s (w % 4096) → compared_by ns s w n ≡ alike_made n x.place y.place x.width
-unfolding compared_by
-compared_is ns s w n e k = rw (e, k)
+pub found-bounded : (ns : List Declared) (s : Bytes) (w : ℕ) → Bounded ns → (place_in (name_found ns s w) ≤ 69) × (width_in (name_found ns s w) ≤ 16)
+found-bounded ns s w h = look_up-bounded (take (w % 16) (drop (w / 16) s)) ns h
 
 -- ---- an operator, by its byte
 module _ (b n x y : ℕ) where
@@ -246,22 +243,22 @@ module _ (ns : List Declared) (s : Bytes) where
     name_word_lem : (p k n x y : ℕ) → NameIn s p k → word_made ns s (name_word p k) n x y ≡ formula m n (resolved m ns s (name p k))
     unfolding name_literal resolved
     name_word_lem p k n x y h =
-        let z : 2 + (found_at ns s p k).place + 0 ≡ 2 + (found_at ns s p k).place = omega arith in
-        word-name ns s (name_word p k) n x y (small p k h) ∙ rw (found_name p k h refl, z, symbol_made m n (found_at ns s p k).place)
+        let z : 2 + (place_in (found_at ns s p k)) + 0 ≡ 2 + (place_in (found_at ns s p k)) = omega arith in
+        word-name ns s (name_word p k) n x y (small p k h) ∙ rw (found_name p k h refl, z, symbol_made m n (place_in (found_at ns s p k)))
 
     one_word : (p k i n x y : ℕ) → NameIn s p k → i ≤ 16 → word_made ns s (bit_word p k i) n x y ≡ formula m n (resolved m ns s (bit_of p k i))
     unfolding name_literal resolved
     one_word p k i n x y h l =
-        let z : 2 + (found_at ns s p k).place + min i 16 ≡ 2 + ((found_at ns s p k).place + i) = omega arith in
+        let z : 2 + (place_in (found_at ns s p k)) + min i 16 ≡ 2 + ((place_in (found_at ns s p k)) + i) = omega arith in
         word-bit ns s (bit_word p k i) n x y (bit_word-large p k i) (bit_word-small p k i (small p k h))
-        ∙ rw (found_name p k h (bit_word-name p k i (small p k h)), bit_word-bit p k i (small p k h), z, symbol_made m n ((found_at ns s p k).place + i))
+        ∙ rw (found_name p k h (bit_word-name p k i (small p k h)), bit_word-bit p k i (small p k h), z, symbol_made m n ((place_in (found_at ns s p k)) + i))
 
     alike_words : (p k q j n x y : ℕ) → NameIn s p k → NameIn s q j → word_made ns s (alike_word p k q j) n x y ≡ formula m n (resolved m ns s (alike p k q j))
     unfolding compared_by resolved formula
     alike_words p k q j n x y h i =
         word-alike ns s (alike_word p k q j) n x y (alike_word-large p k q j)
         ∙ rw (found_name p k h (alike_word-left p k q j (small p k h) (small q j i)), found_name q j i (alike_word-right p k q j (small p k h) (small q j i)))
-        (alike_made_lem m n (found_at ns s p k).place (found_at ns s q j).place (found_at ns s p k).width)
+        (alike_made_lem m n (place_in (found_at ns s p k)) (place_in (found_at ns s q j)) (width_in (found_at ns s p k)))
 
   byte_word_lem : (b n x y : ℕ) → byte_word b < 8192 → word_made ns s (byte_word b) n x y ≡ byte_made b n x y
   byte_word_lem b n x y h = word_byte ns s (byte_word b) n x y (byte_word-large b) h ∙ rw (byte_word-back b)
@@ -347,7 +344,7 @@ module _ (ns : List Declared) (s : Bytes) (bounded : Bounded ns) where
   fits_low : (e : Tree) → fits ns s e ≡ true → Low e
   unfolding fits
   fits_low (name p k) h = tt
-  fits_low (bit_of p k i) h = omega (arith, ltb-true i (found_at ns s p k).width h, (look_up-bounded (take k (drop p s)) ns bounded).1)
+  fits_low (bit_of p k i) h = omega (arith, ltb-true i (width_in (found_at ns s p k)) h, (look_up-bounded (take k (drop p s)) ns bounded).1)
   fits_low (alike p k q j) h = tt
   fits_low (bit b) h = tt
   fits_low (not e) h = fits_low e h
@@ -400,12 +397,12 @@ module _ (s : Bytes) (short : length s ≤ 255) where
       (enough_tree e2 i.2 (byte_word b ∷ rest) (h + 1) (omega arith) (enough_step (byte_word b) rest (h + 1 + 1) (h + 1) 2 (operator_taken b i.0) (omega arith) (omega arith) r)))
 
 -- ---- a field that is a formula
-fine-tree : (ns : List Declared) (s : Bytes) (t : Parsed) → judged_tree ns s t ≡ Fine → (e : Tree) × (t ≡ tree e) × (fits ns s e ≡ true)
+fine-tree : (ns : List Declared) (s : Bytes) (t : Parsed) → judged_tree ns s t ≡ Ok tt → (e : Tree) × (t ≡ tree e) × (fits ns s e ≡ true)
 unfolding judged_tree
 fine-tree ns s none h = let z : ◌≡◌ {A = ℕ} 0 1 = cc in absurd (omega arith)
 fine-tree ns s (tree e) h = (e, refl, at (ltb 16 (depth_of e)) (known ns s e) (fits ns s e) h)
   where
-    at : (t u v : Bool) → pick t (Faulty TooDeep) (pick u (pick v Fine (Faulty WrongWidth)) (Faulty UnknownName)) ≡ Fine → v ≡ true
+    at : (t u v : Bool) → ◌≡◌ {A = Result Unit Fault} (pick t (Err TooDeep) (pick u (pick v (Ok tt) (Err WrongWidth)) (Err UnknownName))) (Ok tt) → v ≡ true
     at true u v k = let z : ◌≡◌ {A = ℕ} 0 1 = cc in absurd (omega arith)
     at false true true k = refl
     at false true false k = let z : ◌≡◌ {A = ℕ} 0 1 = cc in absurd (omega arith)
@@ -423,8 +420,12 @@ tree-program : (ns : List Declared) (s : Bytes) (m : ℕ) (e : Tree) → tree_of
 unfolding ran
 tree-program ns s m e h l n = ap (λ (ws : List ℕ). program ns s ws n) (sym (append-nil (postfix e))) ∙ tree-ran ns s m (field-short s e h) e (in_field s e h) l [] (0 ∷ 0 ∷ []) n ∙ rw append-nil
 
-tree_worded : (ns : List Declared) (s : Bytes) (m : ℕ) (e : Tree) → tree_of s ≡ tree e → Low e → Worded ns s m (answer_of (tree e))
-unfolding answer_of padded tree_expr
+-- what a formula's words are
+abbrev read_as : Tree → Formula
+read_as e = record { depth = depth_of e; count = length (postfix e); words = padded (postfix e) }
+
+tree_worded : (ns : List Declared) (s : Bytes) (m : ℕ) (e : Tree) → tree_of s ≡ tree e → Low e → Worded ns s m (read_as e)
+unfolding padded tree_expr
 tree_worded ns s m e h l =
     let w : take (length (postfix e)) (postfix e ++ replicate (255 - length (postfix e)) 0) ≡ postfix e = take-append_seam (postfix e) (replicate (255 - length (postfix e)) 0) in
     record {
@@ -435,12 +436,18 @@ tree_worded ns s m e h l =
       top = λ n. rw (w, h, tree-program ns s m e h l n);
     }
 
-pub worded : (ns : List Declared) (s : Bytes) (m : ℕ) {f : Formula} → judged_formula ns s ≡ Fine → Bounded ns → f ≡ formula_of s → Worded ns s m f
-unfolding formula_of
-worded ns s m h b e =
+-- a formula that is not refused is one
+pub formed : (ns : List Declared) (s : Bytes) → judged_formula ns s ≡ Ok tt → (f : Formula) × (formula_of s ≡ Some f)
+unfolding formula_of answer_of
+formed ns s h = let t = fine-tree ns s (tree_of s) h in (read_as t.0, ap answer_of t.1)
+
+pub worded : (ns : List Declared) (s : Bytes) (m : ℕ) {f : Formula} → judged_formula ns s ≡ Ok tt → Bounded ns → formula_of s ≡ Some f → Worded ns s m f
+unfolding formula_of answer_of
+worded ns s m {f} h b e =
     let t = fine-tree ns s (tree_of s) h in
-    let k : _ ≡ answer_of (tree t.0) = e ∙ ap answer_of t.1 in
-    rw k (tree_worded ns s m t.0 t.1 (fits_low ns s b t.0 t.2))
+    let k : Some f ≡ Some (read_as t.0) = sym e ∙ ap answer_of t.1 in
+    let is : f ≡ read_as t.0 = cc in
+    rw is (tree_worded ns s m t.0 t.1 (fits_low ns s b t.0 t.2))
 
 -- ---- the stack as an array
 stack_top : (array : List ℕ) (h : ℕ) → 1 ≤ h → get_or (stack_of array h) 0 0 ≡ get_or array (h - 1) 0
@@ -470,17 +477,20 @@ unfolding stack_of
 stack_push array k x l = rw (add-one k, get_or-set_same array k x 0 l, stack_set array k x k (omega arith))
 
 -- ---- the loop over the words
-pub record Running (ns : List Declared) (s : Bytes) (ws : List ℕ) (f : ℕ) (before : List ℕ) (n : ℕ) (out stack : List ℕ) (next h i : ℕ) : Type 0 where
+pub record Running (ns : List Declared) (s : Bytes) (ws : List ℕ) (before now : Gates) (stack : List ℕ) (h i : ℕ) : Type 0 where
   pub within : i ≤ length ws
   pub deep : 2 ≤ h
   pub low : h ≤ i + 2
   pub long : length stack ≡ 257
   pub enough : Enough h (drop i ws)
-  pub going : Going f before out n next (program ns s ws n).gates (ran ns s (drop i ws) (stack_of stack h) next).gates
-  pub top : (ran ns s (drop i ws) (stack_of stack h) next).stack ≡ (program ns s ws n).stack
+  pub going : Going before now (program ns s ws before.next.0).gates (ran ns s (drop i ws) (stack_of stack h) now.next.0).gates
+  pub top : (ran ns s (drop i ws) (stack_of stack h) now.next.0).stack ≡ (program ns s ws before.next.0).stack
 
-module _ (ns : List Declared) (s : Bytes) (ws : List ℕ) (f : ℕ) (before : List ℕ) (n : ℕ) where
-  pub running-start : f ≤ n → Enough 2 ws → Running ns s ws f before n before (replicate 257 0) n 2 0
+module _ (ns : List Declared) (s : Bytes) (ws : List ℕ) (before : Gates) where
+  abbrev n : ℕ
+  n = before.next.0
+
+  pub running-start : before.first.0 ≤ n → Enough 2 ws → Running ns s ws before before (replicate 257 0) 2 0
   unfolding stack_of
   running-start l e =
       record {
@@ -489,11 +499,14 @@ module _ (ns : List Declared) (s : Bytes) (ws : List ℕ) (f : ℕ) (before : Li
         low = omega arith;
         long = refl;
         enough = e;
-        going = begin f before n (program ns s ws n).gates l;
+        going = begin before (program ns s ws n).gates l;
         top = refl;
       }
 
-  module _ {out stack : List ℕ} {next h i : ℕ} (r : Running ns s ws f before n out stack next h i) where
+  module _ {now : Gates} {stack : List ℕ} {h i : ℕ} (r : Running ns s ws before now stack h i) where
+    abbrev next : ℕ
+    next = now.next.0
+
     module _ {w : ℕ} (l : i < length ws) (q : get_or ws i 0 ≡ w) where
       abbrev now_made : Piece
       now_made = word_made ns s w next (get_or stack (h - 2) 0) (get_or stack (h - 1) 0)
@@ -513,20 +526,20 @@ module _ (ns : List Declared) (s : Bytes) (ws : List ℕ) (f : ℕ) (before : Li
       next_splits : Splits (ran ns s (drop i ws) (stack_of stack h) next).gates now_made.gates left-ran.gates
       next_splits = record { is = ap (λ (x : Ran). x.gates) next-ran }
 
-      pub running-room : Room f before n (length (program ns s ws n).gates) → Room f out next (length now_made.gates)
-      running-room o = going_room {s = now_made.gates} {rest' = left-ran.gates} r.going next_splits o
+      pub running-room : Room before (length (program ns s ws n).gates) → Room now (length now_made.gates)
+      running-room o = going_room {now = now_made.gates} {later = left-ran.gates} r.going next_splits o
 
-      module _ (few : length ws ≤ 255) {out2 : List ℕ} {next2 lit2 t : ℕ} (a : Added f out out2 next next2 now_made.gates) (o : lit2 ≡ now_made.out) (k : t ≡ taken w) where
+      module _ (few : length ws ≤ 255) {after : Gates} {lit2 t : ℕ} (a : Added now after now_made.gates) (o : lit2 ≡ now_made.out) (k : t ≡ taken w) where
         next-stack : stack_of (set stack (h - t) lit2) (h - t + 1) ≡ now_made.out ∷ drop (taken w) (stack_of stack h)
         next-stack =
             let e = running_enough in
             let d : drop (taken w) (stack_of stack h) ≡ stack_of stack (h - t) = rw (← k) (stack-drop stack t h (omega (arith, k))) in
             stack_push stack (h - t) lit2 (omega (arith, r.low, r.long)) ∙ rw (o, d)
 
-        next-left : ran ns s (drop (i + 1) ws) (stack_of (set stack (h - t) lit2) (h - t + 1)) next2 ≡ left-ran
+        next-left : ran ns s (drop (i + 1) ws) (stack_of (set stack (h - t) lit2) (h - t + 1)) after.next.0 ≡ left-ran
         next-left = rw (next-stack, a.count)
 
-        pub running_step : Running ns s ws f before n out2 (set stack (h - t) lit2) next2 (h - t + 1) (i + 1)
+        pub running_step : Running ns s ws before after (set stack (h - t) lit2) (h - t + 1) (i + 1)
         running_step =
             let e = running_enough in
             let z : h + 1 - taken w ≡ h - t + 1 = omega (arith, k) in
@@ -536,7 +549,7 @@ module _ (ns : List Declared) (s : Bytes) (ws : List ℕ) (f : ℕ) (before : Li
               low = omega (arith, r.low);
               long = rw length-set r.long;
               enough = rw (← z, add-one i) (rw (drop-cons ws i 0 l, q) at r.enough).1;
-              going = rw next-left (go {s = now_made.gates} {rest' = left-ran.gates} r.going next_splits a);
+              going = rw next-left (go {now = now_made.gates} {later = left-ran.gates} r.going next_splits a);
               top = ap (λ (x : Ran). x.stack) next-left ∙ sym (ap (λ (x : Ran). x.stack) next-ran) ∙ r.top;
             }
 
@@ -544,7 +557,7 @@ module _ (ns : List Declared) (s : Bytes) (ws : List ℕ) (f : ℕ) (before : Li
     unfolding ran
     end_ran l = rw (drop_of_length-le ws l)
 
-    pub running_done : length ws ≤ i → Added f before out n next (program ns s ws n).gates
+    pub running_done : length ws ≤ i → Added before now (program ns s ws n).gates
     running_done l = done r.going (ap (λ (x : Ran). x.gates) (end_ran l))
 
     pub running-top : length ws ≤ i → get_or stack (h - 1) 0 ≡ get_or (program ns s ws n).stack 0 0

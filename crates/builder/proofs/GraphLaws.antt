@@ -1,5 +1,6 @@
 -- What the code holds of an accepted text is its graph with the terminal edges marked, and what circuit asks of
 -- it. Assumes nothing.
+use Rattle.std.specs.Prelude.{Ok}
 use mathlib.Core.Path.{◌≡◌, refl, sym, ◌∙◌}
 use mathlib.Core.Bool.{Bool, false}
 use mathlib.Core.List.{List, [], ◌∷◌, ◌++◌}
@@ -18,7 +19,6 @@ use Rattle.graph.specs.Meaning.Named.{a_signal, a-constant}
 use Rattle.graph.specs.Meaning.Means.{one_bit, bit_at_index, compared, is_zero, is_one, inverted, bracketed, both, some, just_one, both-alike}
 use Rattle.graph.specs.Held.{no_arc, held_as, held_of}
 use Rattle.graph.specs.declared.Arc.{Arc}
-use Rattle.graph.specs.declared.Judged.TheVariants.{Fine}
 use Rattle.graph.specs.Claims.{FormulaSound, EdgeSound}
 use Rattle.graph.proofs.BitLaws.{bits-append, bits-some}
 use Rattle.graph.proofs.HeldLaws.{sound}
@@ -60,7 +60,7 @@ module _ (ss cs : List Name) where
     fits-formula : Scoped (bits_of ss) (bits_of cs) x
     fits-formula = scoped s f.parse x f.means
 
-    fine : judged_formula (placed 0 (ss ++ cs)) s ≡ Fine
+    fine : judged_formula (placed 0 (ss ++ cs)) s ≡ (Ok tt)
     unfolding judged_tree
     fine = rw (f.parsed, le-ltb 16 (depth_of f.parse) f.shallow, f.names-known, f.widths_fit)
 
@@ -93,8 +93,10 @@ module _ (text : Bytes) (ss cs : List Name) (vs : List Bytes) (t : Bool) (a : Ar
   arc_good =
       record {
         from = rw w.from_is w.from-known;
-        left-fine = rw w.antecedent-at.bytes (fine ss cs e.antecedent_text e.antecedent w.antecedent_sound);
-        right-fine = rw w.consequent-at.bytes (fine ss cs e.consequent_text e.consequent w.consequent_sound);
+        fine = record {
+          left = rw w.antecedent-at.bytes (fine ss cs e.antecedent_text e.antecedent w.antecedent_sound);
+          right = rw w.consequent-at.bytes (fine ss cs e.consequent_text e.consequent w.consequent_sound);
+        };
       }
 
   edge-fits : EdgeFits (bits_of ss) (bits_of cs) (length vs) e

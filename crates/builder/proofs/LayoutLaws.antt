@@ -1,4 +1,7 @@
 -- Header, latches and outputs stored one after another stand in front of the gates. Assumes nothing.
+use Rattle.std.specs.Prelude.{Option, Some, None, is_some}
+use Rattle.netlist.specs.declared.literals.Literal.{Literal}
+use Rattle.builder.specs.Private.Terms.{ends_of}
 use mathlib.Core.Path.{◌≡◌, refl, sym, ap, ◌∙◌}
 use mathlib.Core.Bool.{Bool, true, false}
 use mathlib.Core.List.{List, [], ◌∷◌, ◌++◌, append_assoc, append-nil}
@@ -7,17 +10,16 @@ use native.Mathlib.Nat.{zero-add}
 use native.Mathlib.Numerals.{add-one}
 use native.Mathlib.Omega.{arith}
 use lib.ListN.{length, take, drop, set, length-append, length-drop}
-use lib.Seq.{sets, sets-eq, drop_at, drop-drop, length-take-le, take-length, drop-length}
+use lib.Seq.{sets, length-sets, sets-eq, drop_at, drop-drop, length-take-le, take-length, drop-length}
 use borrow.Rule.Slice.PartMut.{put_mid, same_len_mid}
 use Rattle.text.proofs.WriterLaws.{sets-append}
 use Rattle.assertion.specs.Graph.{Bytes, Edge}
 use Rattle.graph.specs.declared.CheckedGraph.{CheckedGraph}
 use Rattle.circuit.specs.Numbers.{constant_latches, operands}
-use Rattle.builder.specs.Private.Adding.{Room}
 use Rattle.builder.specs.Private.Edges.{edges_in, edge_of, edges_of, GraphGood}
-use Rattle.builder.specs.Private.Monitor.{edge_pairs, outputs_of, outputs_asked, header_of, front_of, monitor_gates, monitor_edges, MonitorMade, latch_in, gate_in, gates_in, front_in, numbers_in}
-use Rattle.builder.specs.declared.Outputs.{Outputs}
-use Rattle.builder.proofs.AddingLaws.{words-length, kept}
+use Rattle.builder.specs.Private.Monitor.{told, monitor_ends, ends_after, edge_pairs, outputs_of, outputs_asked, header_of, front_of, monitor_gates, monitor_edges, GatesStored, latch_in, gate_in, gates_in, front_in, numbers_in}
+use Rattle.builder.specs.declared.layout.Stored.{Stored}
+use Rattle.builder.proofs.AddingLaws.{words-length}
 use Rattle.builder.proofs.EdgeLaws.{edges-count}
 
 constants-length : (k l : ℕ) → length (constant_latches l k) ≡ 2 * k
@@ -29,47 +31,44 @@ pairs_length [] ds h = refl
 pairs_length (x ∷ hs) [] h = absurd (omega arith)
 pairs_length (x ∷ hs) (y ∷ ds) h = omega (arith, pairs_length hs ds (omega arith))
 
-outputs-length : (checked : Bool) (o t : ℕ) → length (outputs_of checked o t) ≡ outputs_asked checked
-outputs-length true o t = refl
-outputs-length false o t = refl
+outputs-length : (o : ℕ) (t : Option ℕ) → length (outputs_of o t) ≡ outputs_asked (is_some t)
+outputs-length o (Some t) = refl
+outputs-length o None = refl
 
-pub outputs-some : (checked : Bool) → 1 ≤ outputs_asked checked
-outputs-some true = omega arith
-outputs-some false = omega arith
-
-pub outputs-two : (checked : Bool) → checked ≡ true → outputs_asked checked ≡ 2
-outputs-two checked e = rw e
+pub told-is : (l : Option Literal) → is_some (told l) ≡ is_some l
+told-is (Some l) = refl
+told-is None = refl
 
 -- the outputs stored one after another
-pub both_stored : (checked : Bool) (net : List ℕ) (q o t : ℕ) → checked ≡ true → set (set net q o) (q + 1) t ≡ sets net q (outputs_of checked o t)
-both_stored checked net q o t e = rw (e, add-one q)
+pub two_stored : (net : List ℕ) (q o : ℕ) (m : Option Literal) (x : Literal) → m ≡ Some x → set (set net q o) (q + 1) x.0 ≡ sets net q (outputs_of o (told m))
+two_stored net q o m x e = rw (e, add-one q)
 
-pub one_stored : (checked : Bool) (net : List ℕ) (q o t : ℕ) → checked ≡ false → set net q o ≡ sets net q (outputs_of checked o t)
-one_stored checked net q o t e = rw e
+pub one_stored : (net : List ℕ) (q o : ℕ) (m : Option Literal) → m ≡ None → set net q o ≡ sets net q (outputs_of o (told m))
+one_stored net q o m e = rw e
 
-module _ (checked : Bool) (hs ds : List ℕ) (s k e a o t : ℕ) (hl : length hs ≡ e) (dl : length ds ≡ e) where
-  pub front_length : length (front_of checked s k e a hs ds o t) ≡ 5 + outputs_asked checked + 2 * k + 4 * e
+module _ (hs ds : List ℕ) (s k e a o : ℕ) (t : Option ℕ) (hl : length hs ≡ e) (dl : length ds ≡ e) where
+  pub front_length : length (front_of s k e a hs ds o t) ≡ 5 + outputs_asked (is_some t) + 2 * k + 4 * e
   unfolding front_of
   front_length =
       omega (
         arith,
-        length-append (constant_latches (2 + s) k) (edge_pairs hs ds ++ outputs_of checked o t),
-        length-append (edge_pairs hs ds) (outputs_of checked o t),
-        outputs-length checked o t,
+        length-append (constant_latches (2 + s) k) (edge_pairs hs ds ++ outputs_of o t),
+        length-append (edge_pairs hs ds) (outputs_of o t),
+        outputs-length o t,
         constants-length k (2 + s),
         pairs_length hs ds (dl ∙ sym hl),
       )
 
   -- stored one after another
   pub front-all : (net : List ℕ) (p q : ℕ) → p ≡ 5 + 2 * k → q ≡ p + 4 * e →
-      sets (sets (sets (sets net 0 (header_of (1 + s) (k + 2 * e) (outputs_asked checked) a)) 5 (constant_latches (2 + s) k)) p (edge_pairs hs ds)) q (outputs_of checked o t)
-      ≡ sets net 0 (front_of checked s k e a hs ds o t)
+      sets (sets (sets (sets net 0 (header_of (1 + s) (k + 2 * e) (outputs_asked (is_some t)) a)) 5 (constant_latches (2 + s) k)) p (edge_pairs hs ds)) q (outputs_of o t)
+      ≡ sets net 0 (front_of s k e a hs ds o t)
   unfolding front_of
   front-all net p q ep eq =
-      let H = header_of (1 + s) (k + 2 * e) (outputs_asked checked) a in
+      let H = header_of (1 + s) (k + 2 * e) (outputs_asked (is_some t)) a in
       let C = constant_latches (2 + s) k in
       let L = edge_pairs hs ds in
-      let O = outputs_of checked o t in
+      let O = outputs_of o t in
       let c : p ≡ 5 + length C = omega (arith, constants-length k (2 + s)) in
       let d : q ≡ p + length L = omega (arith, pairs_length hs ds (dl ∙ sym hl)) in
       ap (λ (i : ℕ). sets (sets (sets (sets net 0 H) 5 C) p L) i O) d
@@ -108,11 +107,11 @@ monitor_outs : (s v : ℕ) (es : List Edge) (l f : ℕ) → (length (monitor_edg
 unfolding monitor_edges
 monitor_outs s v es l f = outs-length s _ _ es _
 
--- the gates that were made, by the variables
-pub made : (checked : Bool) (text : Bytes) (g : CheckedGraph) {before part hs ds : List ℕ} {f gates : ℕ} {r : Outputs} → f ≡ gate_in g →
-    MonitorMade checked (gate_in g) before part r hs ds g.signals g.vertices (edges_in text g) (latch_in g) → gates ≡ r.next.0 - f → gates ≡ length (gates_in checked text g)
-unfolding gates_in
-made checked text g e m d = omega (arith, e, m.gates.count, d)
+-- there is a second output where checked is asked for
+pub second-is : (checked : Bool) (s vertices : ℕ) (es : List Edge) (l f : ℕ) → is_some (monitor_ends checked s vertices es l f).second ≡ checked
+unfolding monitor_ends ends_after ends_of
+second-is true s vertices es l f = refl
+second-is false s vertices es l f = refl
 
 module _ (checked : Bool) (text : Bytes) (g : CheckedGraph) (good : GraphGood text g) where
   abbrev base : ℕ
@@ -123,34 +122,34 @@ module _ (checked : Bool) (text : Bytes) (g : CheckedGraph) (good : GraphGood te
   front_in_lem =
       let n = edges-count text g (omega (arith, good.arcs, good.edges)) in
       let o = monitor_outs g.signals g.vertices (edges_in text g) (latch_in g) (gate_in g) in
-      front_length checked _ _ g.signals g.constants g.edges (length (gates_in checked text g)) _ _ (o.0 ∙ n) (o.1 ∙ n)
+      let m = monitor_edges g.signals g.vertices (edges_in text g) (latch_in g) (gate_in g) in
+      let e = monitor_ends checked g.signals g.vertices (edges_in text g) (latch_in g) (gate_in g) in
+      rw (second-is checked g.signals g.vertices (edges_in text g) (latch_in g) (gate_in g))
+      at (front_length m.happy m.condemned g.signals g.constants g.edges (length (gates_in checked text g)) e.accept e.second (o.0 ∙ n) (o.1 ∙ n))
 
   pub numbers-length : length (numbers_in checked text g) ≡ base + 2 * length (gates_in checked text g)
   unfolding numbers_in
   numbers-length = omega (arith, length-append (front_in checked text g) (operands (gates_in checked text g)), front_in_lem, words-length (gates_in checked text g))
 
   module _ (net : List ℕ) (long : length (numbers_in checked text g) ≤ length net) where
-    pub room : (1 + g.signals) + (g.constants + 2 * g.edges) + length (gates_in checked text g) ≤ 4095 →
-        Room (gate_in g) (take (length net - base) (drop base net)) (gate_in g) (length (monitor_gates checked g.signals g.vertices (edges_in text g) (latch_in g) (gate_in g)))
-    unfolding gates_in
-    room few =
-        record {
-          from = omega arith;
-          few = omega arith;
-        }
+    module _ {part hs ds : List ℕ} {r : Stored} (m : GatesStored checked (take (length net - base) (drop base net)) part r hs ds g.signals g.vertices (edges_in text g) (latch_in g) (gate_in g)) where
+      pub still : base ≤ length (put_mid base (length net - base) net part)
+      still =
+          let ops = operands (monitor_gates checked g.signals g.vertices (edges_in text g) (latch_in g) (gate_in g)) in
+          let same : length part ≡ length (take (length net - base) (drop base net)) = ap length m.words ∙ length-sets (take (length net - base) (drop base net)) 0 ops in
+          omega (arith, numbers-length, same_len_mid base (length net - base) net part same)
 
-    pub still : {part hs ds : List ℕ} {r : Outputs} →
-        MonitorMade checked (gate_in g) (take (length net - base) (drop base net)) part r hs ds g.signals g.vertices (edges_in text g) (latch_in g) →
-        base ≤ length (put_mid base (length net - base) net part)
-    still {part} m = omega (arith, numbers-length, same_len_mid base (length net - base) net part (kept m.gates))
+      pub asked : is_some r.made.second ≡ checked
+      asked = sym (told-is r.made.second) ∙ ap (λ (o : Option ℕ). is_some o) m.seconds ∙ second-is checked g.signals g.vertices (edges_in text g) (latch_in g) (gate_in g)
 
-    pub stored : {part hs ds : List ℕ} {r : Outputs} {gates : ℕ} →
-        MonitorMade checked (gate_in g) (take (length net - base) (drop base net)) part r hs ds g.signals g.vertices (edges_in text g) (latch_in g) →
-        gates ≡ length (gates_in checked text g) →
-        sets (put_mid base (length net - base) net part) 0 (front_of checked g.signals g.constants g.edges gates hs ds r.accept.0 r.second.0)
-        ≡ numbers_in checked text g ++ drop (length (numbers_in checked text g)) net
-    unfolding numbers_in front_in gates_in
-    stored m c =
-        let z : 2 * (gate_in g - gate_in g) ≡ 0 = omega arith in
-        rw (m.happies, m.condemneds, m.accepts, m.seconds, c, m.gates.words, z)
-        (whole_part net (front_in checked text g) (operands (gates_in checked text g)) base front_in_lem (omega (arith, numbers-length, words-length (gates_in checked text g))))
+      pub many : r.count ≡ length (gates_in checked text g)
+      unfolding gates_in
+      many = m.count
+
+      pub all_stored :
+          sets (put_mid base (length net - base) net part) 0 (front_of g.signals g.constants g.edges r.count hs ds r.made.accept.0 (told r.made.second))
+          ≡ numbers_in checked text g ++ drop (length (numbers_in checked text g)) net
+      unfolding numbers_in front_in gates_in
+      all_stored =
+          rw (m.happies, m.condemneds, m.accepts, m.seconds, m.count, m.words)
+          (whole_part net (front_in checked text g) (operands (gates_in checked text g)) base front_in_lem (omega (arith, numbers-length, words-length (gates_in checked text g))))

@@ -1,41 +1,35 @@
 // How many gates the monitor of a checked graph has, by the formula; no gate is made.
-ghost use Rattle.std.specs.Prelude.{◌≡◌, cond, ◌+◌, ◌-◌, ◌*◌, ◌≤◌, length};
+ghost use Rattle.std.specs.Prelude.{◌≡◌, cond, ◌+◌, ◌-◌, ◌*◌, ◌≤◌, length, sum_by};
 ghost use Rattle.assertion.specs.Graph.{Graph};
 ghost use Rattle.graph.specs.Reading.{accepted, graph_of};
 ghost use Rattle.graph.specs.Held.{held_of};
 ghost use Rattle.graph.specs.Private.Steps.{listed, Kept};
 ghost use Rattle.circuit.specs.Count.{gate_formula_with};
-ghost use Rattle.builder.specs.Private.Machine.{Bounded, summed, byte_gates, word_gates, gates_at, field_gates, arc_gates, is_reached, terminal_at, reached_from};
+ghost use Rattle.builder.specs.Private.Machine.{Bounded, named, byte_gates, word_gates, field_gates, arc_gates, is_reached, reached_from, terminals_of};
 
-use crate::formulas::{ALIKE, AND, BITS, BYTES, OR, XOR, found_in};
+use crate::formulas::{ALIKE, AND, BITS, BYTES, OR, XOR};
+use crate::names::Names;
 use graph::{Arc, CheckedGraph, part};
 
 // The byte of `=`.
 const SAME: usize = 61;
 
 // The gates of a byte.
+#[tactic(auto, unfolding(crate::specs::Private::Machine::byte_gates))]
 fn byte_gates(b: usize) -> usize
     ensures { (result ≡ byte_gates b) × (result ≤ 3) }
 {
-    if b == AND {
-        return 1;
+    match b {
+        AND | OR => 1,
+        XOR | SAME => 3,
+        _ => 0,
     }
-    if b == OR {
-        return 1;
-    }
-    if b == XOR {
-        return 3;
-    }
-    if b == SAME {
-        return 3;
-    }
-    0
 }
 
 // The gates of a word.
-fn word_gates(text: &[u8], symbols: &[usize], total: usize, field: &[u8], w: usize) -> usize
-    requires { Bounded (listed text.now symbols.now total) }
-    ensures { (result ≡ word_gates (listed text.now symbols.now total) field.now w) × (result ≤ 63) }
+fn word_gates(names: &Names<'_>, field: &[u8], w: usize) -> usize
+    requires { Bounded (named names.now) }
+    ensures { (result ≡ word_gates (named names.now) field.now w) × (result ≤ 63) }
 {
     if w < BYTES {
         return 0;
@@ -46,119 +40,76 @@ fn word_gates(text: &[u8], symbols: &[usize], total: usize, field: &[u8], w: usi
     if w < ALIKE {
         return 0;
     }
-    let left = found_in(text, symbols, total, field, (w - ALIKE) / BYTES);
-    less(4 * left.width, 1)
+    let width = names.width_of(field, (w - ALIKE) / BYTES);
+    (4 * width).saturating_sub(1)
 }
 
-// The gates of the first `count` words.
-fn words_gates(
-    text: &[u8],
-    symbols: &[usize],
-    total: usize,
-    field: &[u8],
-    words: &[u32],
-    count: usize,
-) -> usize
-    requires { Bounded (listed text.now symbols.now total) × (count ≤ 255) × (count ≤ length words.now) }
-    ensures { (result ≡ summed (gates_at (listed text.now symbols.now total) field.now words.now) 0 count) × (result ≤ 16065) }
+// The gates of words.
+fn words_gates(names: &Names<'_>, field: &[u8], words: &[u32]) -> usize
+    requires { Bounded (named names.now) × (length words.now ≤ 255) }
+    ensures { (result ≡ sum_by (word_gates (named names.now) field.now) words.now) × (result ≤ 16065) }
 {
-    let mut sum: usize = 0;
-    let mut i = 0;
-    while i < count {
-        sum += word_gates(text, symbols, total, field, words[i] as usize);
-        i += 1;
+    let mut sum = 0;
+    for &w in words {
+        sum += word_gates(names, field, w as usize);
     }
     sum
 }
 
 // The gates of the formula that stands in the text from `at` on, n bytes long.
-fn field_gates(text: &[u8], symbols: &[usize], total: usize, at: usize, n: usize) -> usize
-    requires { Bounded (listed text.now symbols.now total) }
-    ensures { (result ≡ field_gates text.now (listed text.now symbols.now total) at n) × (result ≤ 16065) }
+fn field_gates(names: &Names<'_>, at: usize, n: usize) -> usize
+    requires { Bounded (named names.now) }
+    ensures { (result ≡ field_gates names.now.text.now (named names.now) at n) × (result ≤ 16065) }
 {
-    let field = part(text, at, n);
-    let read = formula::read(field);
-    let count = read.count;
-    words_gates(text, symbols, total, field, &read.words, count)
+    let field = part(names.text, at, n);
+    match formula::read(field) {
+        Some(read) => words_gates(names, field, &read.words[..read.count]),
+        None => 0,
+    }
 }
 
 // The gates of an edge's formulas.
-fn edge_gates(text: &[u8], symbols: &[usize], total: usize, e: Arc) -> usize
-    requires { Bounded (listed text.now symbols.now total) }
-    ensures { (result ≡ field_gates text.now (listed text.now symbols.now total) e.left e.lefts + field_gates text.now (listed text.now symbols.now total) e.right e.rights) × (result ≤ 32130) }
+fn edge_gates(names: &Names<'_>, e: Arc) -> usize
+    requires { Bounded (named names.now) }
+    ensures { (result ≡ field_gates names.now.text.now (named names.now) e.left e.lefts + field_gates names.now.text.now (named names.now) e.right e.rights) × (result ≤ 32130) }
 {
-    let left = field_gates(text, symbols, total, e.left, e.lefts);
-    let right = field_gates(text, symbols, total, e.right, e.rights);
+    let left = field_gates(names, e.left, e.lefts);
+    let right = field_gates(names, e.right, e.rights);
     left + right
 }
 
 // The gates of all formulas.
-fn formulas_gates(text: &[u8], g: CheckedGraph) -> usize
-    requires { Bounded (listed text.now g.names g.named) × (g.edges ≤ 128) }
-    ensures { (result ≡ summed (arc_gates text.now (listed text.now g.names g.named) g.arcs) 0 g.edges) × (result ≤ 32130 * 128) }
+#[tactic(auto, unfolding(crate::specs::Private::Machine::arc_gates))]
+fn formulas_gates(names: &Names<'_>, arcs: &[Arc]) -> usize
+    requires { Bounded (named names.now) × (length arcs.now ≤ 128) }
+    ensures { (result ≡ sum_by (arc_gates names.now.text.now (named names.now)) arcs.now) × (result ≤ 32130 * 128) }
 {
-    let mut sum: usize = 0;
-    let mut i = 0;
-    while i < g.edges {
-        let e = g.arcs[i];
-        sum += edge_gates(text, &g.names, g.named, e);
-        i += 1;
+    let mut sum = 0;
+    for &e in arcs {
+        sum += edge_gates(names, e);
     }
     sum
 }
 
-// 1 where an edge goes to the vertex v, else 0.
-fn reached(g: CheckedGraph, v: usize) -> usize
-    requires { g.edges ≤ 128 }
-    ensures { (result ≡ is_reached g.arcs g.edges v) × (result ≤ 1) }
+// Whether an edge goes to the vertex v.
+fn reached(arcs: &[Arc], v: usize) -> bool
+    ensures { result ≡ is_reached arcs.now v }
 {
-    let mut i = 0;
-    while i < g.edges {
-        let e = g.arcs[i];
-        if e.to == v {
-            return 1;
-        }
-        i += 1;
-    }
-    0
+    arcs.iter().any(|e| e.to == v)
 }
 
 // How many of the vertices from `first` on have an incoming edge.
-fn entered(g: CheckedGraph, first: usize) -> usize
-    requires { (g.edges ≤ 128) × (g.vertices ≤ 64) × (first ≤ 1) }
-    ensures { result ≡ reached_from g first }
+fn entered(arcs: &[Arc], first: usize, vertices: usize) -> usize
+    ensures { result ≡ reached_from arcs.now first vertices }
 {
-    let mut sum: usize = 0;
-    let mut v = first;
-    while v < g.vertices {
-        sum += reached(g, v);
-        v += 1;
-    }
-    sum
+    (first..vertices).filter(|&v| reached(arcs, v)).count()
 }
 
 // How many edges are terminal.
-fn terminals(g: CheckedGraph) -> usize
-    requires { g.edges ≤ 128 }
-    ensures { (result ≡ summed (terminal_at g.arcs) 0 g.edges) × (result ≤ 128) }
+fn terminals(arcs: &[Arc]) -> usize
+    ensures { (result ≡ terminals_of arcs.now) × (result ≤ length arcs.now) }
 {
-    let mut sum: usize = 0;
-    let mut i = 0;
-    while i < g.edges {
-        let e = g.arcs[i];
-        if e.terminal {
-            sum += 1;
-        }
-        i += 1;
-    }
-    sum
-}
-
-// a − b, or 0 where b is larger.
-fn less(a: usize, b: usize) -> usize
-    ensures { result ≡ a - b }
-{
-    if b <= a { a - b } else { 0 }
+    arcs.iter().filter(|e| e.terminal).count()
 }
 
 // How many gates checked adds for so many terminal edges, where it is asked for: 2T − 1, none for none.
@@ -166,7 +117,11 @@ fn checked_gates(checked: bool, terminal: usize) -> usize
     requires { terminal ≤ 128 }
     ensures { (result ≡ cond checked (2 * terminal - 1) 0) × (result ≤ 255) }
 {
-    if checked { less(2 * terminal, 1) } else { 0 }
+    if checked {
+        (2 * terminal).saturating_sub(1)
+    } else {
+        0
+    }
 }
 
 // How many gates the monitor of a checked graph has.
@@ -175,10 +130,16 @@ pub(crate) fn gate_count(text: &[u8], g: CheckedGraph, checked: bool) -> usize
     ensures { (graph : Graph) → graph_of text.now ≡ accepted graph → g ≡ held_of text.now graph → result ≡ gate_formula_with checked graph }
 {
     let edges = g.edges;
-    let later = less(edges, entered(g, 1));
-    let all = less(edges, entered(g, 0));
-    let terminal = terminals(g);
-    let ends = less(terminal, 1);
-    let formulas = formulas_gates(text, g);
+    let arcs = &g.arcs[..edges];
+    let names = Names {
+        text,
+        symbols: &g.names,
+        total: g.named,
+    };
+    let later = edges.saturating_sub(entered(arcs, 1, g.vertices));
+    let all = edges.saturating_sub(entered(arcs, 0, g.vertices));
+    let terminal = terminals(arcs);
+    let ends = terminal.saturating_sub(1);
+    let formulas = formulas_gates(&names, arcs);
     7 * edges + later + all + ends + formulas + checked_gates(checked, terminal)
 }

@@ -1,9 +1,8 @@
-// Variables and their literals, and gates stored one after another; f is the variable of the gate that stands
-// in front.
-ghost use Rattle.std.specs.Prelude.{◌≡◌, [], ◌∷◌, ◌+◌, ◌-◌, ◌≤◌, ◌<◌, set};
+// Variables and their literals, and gates stored one after another.
+ghost use Rattle.std.specs.Prelude.{◌≡◌, ◌+◌, ◌-◌, ◌≤◌, ◌<◌, set};
 ghost use Rattle.netlist.specs.Literals.{literal_of};
-ghost use Rattle.circuit.specs.Gates.{inv, gate};
-ghost use Rattle.builder.specs.Private.Adding.{Added, Room};
+ghost use Rattle.circuit.specs.Gates.{inv, gate, and_of, or_of, xor_of};
+ghost use Rattle.builder.specs.Private.Adding.{Room, Makes, neither_of};
 
 use netlist::{Literal, Variable};
 
@@ -69,19 +68,58 @@ fn store(out: &mut [u16], at: usize, l: Literal)
     }
 }
 
-// Stores the gate of the variable n, the larger operand first; the next variable.
-pub(crate) fn put_gate(
-    out: &mut [u16],
-    f: Variable,
-    n: Variable,
-    a: Literal,
-    b: Literal,
-) -> Variable
-    requires { Room f.0 out.old n.0 1 }
-    ensures { Added f.0 out.old out.new n.0 result.0 (gate a.0 b.0 ∷ []) }
-{
-    let at = 2 * distance(f, n);
-    store(out, at, larger(a, b));
-    store(out, at + 1, smaller(a, b));
-    after(n, 1)
+// Gates stored one after another into a lent buffer, two numbers for each; what is past its end is dropped.
+#[derive(Drop)]
+pub(crate) struct Gates<'a> {
+    pub(crate) out: &'a mut [u16],
+    // The variable of the gate that stands in front.
+    pub(crate) first: Variable,
+    // The variable of the next gate.
+    pub(crate) next: Variable,
+}
+
+impl<'a> Gates<'a> {
+    // Both of two: one gate, the larger operand first.
+    pub(crate) fn put_and(&mut self, a: Literal, b: Literal) -> Literal
+        requires { Room self.old 1 }
+        ensures same { self.new.out.ghost_name ≡ self.old.out.ghost_name }
+        ensures made { Makes self.old self.new result (and_of self.old.next.0 a.0 b.0) }
+    {
+        let made = literal(self.next, false);
+        let at = 2 * distance(self.first, self.next);
+        store(self.out, at, larger(a, b));
+        store(self.out, at + 1, smaller(a, b));
+        self.next = after(self.next, 1);
+        made
+    }
+
+    // Neither of two: one gate.
+    fn put_neither(&mut self, a: Literal, b: Literal) -> Literal
+        requires { Room self.old 1 }
+        ensures same { self.new.out.ghost_name ≡ self.old.out.ghost_name }
+        ensures made { Makes self.old self.new result (neither_of self.old.next.0 a.0 b.0) }
+    {
+        self.put_and(inverse(a), inverse(b))
+    }
+
+    // One of two, or both: neither, inverted.
+    #[tactic(auto, using(crate::proofs::AlikeLaws::inv_flip))]
+    pub(crate) fn put_or(&mut self, a: Literal, b: Literal) -> Literal
+        requires { Room self.old 1 }
+        ensures same { self.new.out.ghost_name ≡ self.old.out.ghost_name }
+        ensures made { Makes self.old self.new result (or_of self.old.next.0 a.0 b.0) }
+    {
+        inverse(self.put_neither(a, b))
+    }
+
+    // Just one of two: both, neither, then neither of those.
+    pub(crate) fn put_xor(&mut self, a: Literal, b: Literal) -> Literal
+        requires { Room self.old 3 }
+        ensures same { self.new.out.ghost_name ≡ self.old.out.ghost_name }
+        ensures made { Makes self.old self.new result (xor_of self.old.next.0 a.0 b.0) }
+    {
+        let both = self.put_and(a, b);
+        let neither = self.put_neither(a, b);
+        self.put_neither(both, neither)
+    }
 }

@@ -8,13 +8,14 @@ ghost use Rattle.std.specs.Prelude.{◌≡◌};
 ghost use Rattle.assertion.specs.Graph.{Graph};
 ghost use Rattle.graph.specs.Reading.{accepted, graph_of};
 ghost use Rattle.builder.specs.Build.{refusal_of, build_end, build_as, build_of};
+ghost use Rattle.builder.specs.declared.Cause.TheVariants.{GraphText};
 ghost use Rattle.builder.specs.Claims.{BuildMeans};
 ghost use Rattle.builder.specs.Private.Edges.{Accepted};
 
 use count::gate_count;
-use graph::{CheckedGraph, ReadOutcome};
-use layout::{HEADER, output_count, put_numbers};
-use netlist::{Literal, Variable};
+use graph::CheckedGraph;
+use layout::{output_count, put_numbers};
+use netlist::{HEADER, Literal};
 use text::Refusal;
 
 mod chains;
@@ -27,6 +28,7 @@ mod gates;
 mod latches;
 mod layout;
 mod monitor;
+mod names;
 mod tokens;
 mod vertices;
 
@@ -44,44 +46,18 @@ pub enum Cause {
     ShortBuffer,
 }
 
-// What a build answers.
-#[derive(Clone, Copy)]
-pub enum Built {
-    // How many gates were made.
-    Gates(usize),
-    Refused(Cause),
-}
-
-// A literal, and the next variable after the gates that make it.
-#[derive(Clone, Copy)]
-struct Made {
-    next: Variable,
-    lit: Literal,
-}
-
-// An OR chain: the next variable, whether it has a term, and the literal that its terms make.
-#[derive(Clone, Copy)]
-struct Chain {
-    next: Variable,
-    some: bool,
-    lit: Literal,
-}
-
-// The happy and condemned literals of a vertex or of an edge, and the next variable after the gates that
-// make them.
+// The happy and condemned literals of a vertex or of an edge.
 #[derive(Clone, Copy)]
 struct Both {
-    next: Variable,
     happy: Literal,
     condemned: Literal,
 }
 
-// The output literals, and the next variable after all gates; `second` is 0 where checked is not asked for.
+// The output literals: accept, and checked where it is asked for.
 #[derive(Clone, Copy)]
 struct Outputs {
-    next: Variable,
     accept: Literal,
-    second: Literal,
+    second: Option<Literal>,
 }
 
 impl Cause {
@@ -103,8 +79,21 @@ impl Cause {
     }
 }
 
+impl From<graph::Cause> for Cause {
+    ghost from_gives = { λ cause r. r ≡ GraphText cause };
+
+    fn from(cause: graph::Cause) -> Cause {
+        Cause::GraphText(cause)
+    }
+}
+
 // The monitor of an accepted text.
-fn build_monitor(net: &mut [u16], text: &[u8], g: CheckedGraph, checked: bool) -> Built
+fn build_monitor(
+    net: &mut [u16],
+    text: &[u8],
+    g: CheckedGraph,
+    checked: bool,
+) -> Result<usize, Cause>
     requires { Accepted text.now g }
     ensures { (graph : Graph) → graph_of text.now ≡ accepted graph → build_end result net.new ≡ build_as checked (accepted graph) net.old }
 {
@@ -112,24 +101,20 @@ fn build_monitor(net: &mut [u16], text: &[u8], g: CheckedGraph, checked: bool) -
     let latches = g.constants + 2 * g.edges;
     let inputs = 1 + g.signals;
     if MOST_VARIABLES - (inputs + latches) < gates {
-        return Built::Refused(Cause::TooManyVariables);
+        return Err(Cause::TooManyVariables);
     }
     if net.len() < HEADER + output_count(checked) + 2 * latches + 2 * gates {
-        return Built::Refused(Cause::ShortBuffer);
+        return Err(Cause::ShortBuffer);
     }
-    let made = put_numbers(net, text, g, checked);
-    Built::Gates(made)
+    Ok(put_numbers(net, text, g, checked))
 }
 
 // Builds the monitor of a graph text, with the second output checked or without: its numbers stand first in the buffer.
-pub fn build(graph: &[u8], checked: bool, net: &mut [u16]) -> Built
+// Answers how many gates were made.
+pub fn build(graph: &[u8], checked: bool, net: &mut [u16]) -> Result<usize, Cause>
     ensures net_after { build_end result net.new ≡ build_of checked graph.now net.old }
     ensures demand { BuildMeans checked graph.now net.old }
 {
-    let read = graph::read_graph(graph);
-    let outcome = read.outcome;
-    match outcome {
-        ReadOutcome::Refused(cause) => Built::Refused(Cause::GraphText(cause)),
-        ReadOutcome::Checked => build_monitor(net, graph, read.graph, checked),
-    }
+    let g = graph::read_graph(graph)?;
+    build_monitor(net, graph, g, checked)
 }

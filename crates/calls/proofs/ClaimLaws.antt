@@ -1,5 +1,6 @@
 -- A call that goes by the tests before it, taken where they pass and refused for what they say, is taken and refused as
 -- claimed. Assumes nothing.
+use Rattle.std.specs.Prelude.{Ok, Err}
 use mathlib.Core.Path.{◌≡◌, refl, sym}
 use mathlib.Core.Bool.{Bool, true, false}
 use mathlib.Core.List.{List}
@@ -10,7 +11,6 @@ use Rattle.netlist.specs.Layout.{input_count}
 use Rattle.trace.proofs.TraceLaws.{length-cycles}
 use Rattle.calls.specs.declared.refusal.Cause.{Cause}
 use Rattle.calls.specs.declared.refusal.Cause.TheVariants.{TraceTooLong, ShortBuffer, WrongLine, NotNetlist, FullTally}
-use Rattle.calls.specs.declared.refusal.Tested.TheVariants.{Passed, Failed}
 use Rattle.calls.specs.declared.tally.Tally.{Tally}
 use Rattle.calls.specs.Tallies.{has_room, Fits}
 use Rattle.calls.specs.Refusals.{refusal_of, is_short, has_latches, has_values, start_check, step_check, run_check}
@@ -26,7 +26,7 @@ full t n h = go (has_room t n) refl
     go false e = refl
 
 module _ (Taken : Type 0) (Refuses : Cause → ℕ → ℕ → Type 0) where
-  pub start_tested : (net : List ℕ) (nl : ℕ) → (start_check net nl ≡ Passed → Taken) → ((cause : Cause) → start_check net nl ≡ Failed cause → Refuses cause (refusal_of cause).number (refusal_of cause).line)
+  pub start_tested : (net : List ℕ) (nl : ℕ) → (start_check net nl ≡ Ok tt → Taken) → ((cause : Cause) → start_check net nl ≡ Err cause → Refuses cause (refusal_of cause).number (refusal_of cause).line)
       → StartTested net nl Taken Refuses
   unfolding refusal_of start_check has_latches
   start_tested net nl took told =
@@ -37,7 +37,7 @@ module _ (Taken : Type 0) (Refuses : Cause → ℕ → ℕ → Type 0) where
       }
 
   pub step_tested : (net cycle : List ℕ) (nl nv : ℕ) (t : Tally)
-      → (step_check net cycle nl nv t ≡ Passed → Taken) → ((cause : Cause) → step_check net cycle nl nv t ≡ Failed cause → Refuses cause (refusal_of cause).number (refusal_of cause).line)
+      → (step_check net cycle nl nv t ≡ Ok tt → Taken) → ((cause : Cause) → step_check net cycle nl nv t ≡ Err cause → Refuses cause (refusal_of cause).number (refusal_of cause).line)
       → StepTested net cycle nl nv t Taken Refuses
   unfolding refusal_of step_check has_latches has_values
   step_tested net cycle nl nv t took told =
@@ -51,7 +51,7 @@ module _ (Taken : Type 0) (Refuses : Cause → ℕ → ℕ → Type 0) where
       }
 
   module _ (net trace : List ℕ) (nl nv nb : ℕ) (t : Tally) where
-    pub run_tested : (run_check net trace nl nv nb t ≡ Passed → Taken) → ((cause : Cause) → run_check net trace nl nv nb t ≡ Failed cause → Refuses cause (refusal_of cause).number (refusal_of cause).line)
+    pub run_tested : (run_check net trace nl nv nb t ≡ Ok tt → Taken) → ((cause : Cause) → run_check net trace nl nv nb t ≡ Err cause → Refuses cause (refusal_of cause).number (refusal_of cause).line)
         → RunTested net trace nl nv nb t Taken Refuses
     unfolding refusal_of run_check is_short has_latches has_values
     run_tested took told =

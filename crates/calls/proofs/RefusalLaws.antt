@@ -1,4 +1,5 @@
 -- Laws of the tests before a call: what holds where they all pass, and where a call is refused for its trace or its tally. Assumes nothing.
+use Rattle.std.specs.Prelude.{Result, Ok, Err}
 use mathlib.Core.Path.{◌≡◌, refl, sym, ap, ◌∙◌}
 use mathlib.Core.Bool.{Bool, true, false, cond, not, ◌&&◌, true≢false}
 use mathlib.Core.List.{List}
@@ -12,15 +13,17 @@ use Rattle.netlist.specs.Valid.{is_netlist}
 use Rattle.netlist.proofs.EachLaws.{both}
 use Rattle.calls.specs.declared.refusal.Cause.{Cause}
 use Rattle.calls.specs.declared.refusal.Cause.TheVariants.{TraceTooLong, ShortBuffer, WrongLine, NotNetlist, FullTally}
-use Rattle.calls.specs.declared.refusal.Tested.{Tested}
-use Rattle.calls.specs.declared.refusal.Tested.TheVariants.{Passed, Failed}
 use Rattle.calls.specs.declared.tally.Tally.{Tally}
 use Rattle.calls.specs.Tallies.{has_room}
 use Rattle.trace.specs.Traces.{is_cycle, fault_of, line_count}
 use Rattle.calls.specs.Refusals.{refusal_of, is_short, has_latches, has_values, start_check, step_check, run_check}
 
+-- what a call answers that is not refused
+abbrev passes : Result Unit Cause
+passes = Ok tt
+
 -- a test that passed, and those that follow it
-first : (a : Bool) (cause : Cause) (c : Tested) → cond (not a) (Failed cause) c ≡ Passed → (a ≡ true) × (c ≡ Passed)
+first : (a : Bool) (cause : Cause) (c : Result Unit Cause) → cond (not a) (Err cause) c ≡ Ok tt → (a ≡ true) × (c ≡ Ok tt)
 first true cause c e = (refl, e)
 first false cause c e = let z : ◌≡◌ {A = ℕ} 0 1 = cc in absurd (omega arith)
 
@@ -38,7 +41,7 @@ pub record StartReady (net : List ℕ) (nl : ℕ) : Type 0 where
   pub netlist : is_netlist net ≡ true
   pub latches : latch_count net ≤ nl
 
-pub start-passed : (net : List ℕ) (nl : ℕ) (c : Tested) → c ≡ start_check net nl → c ≡ Passed → StartReady net nl
+pub start-passed : (net : List ℕ) (nl : ℕ) (c : Result Unit Cause) → c ≡ start_check net nl → c ≡ Ok tt → StartReady net nl
 unfolding start_check
 start-passed net nl c is e =
     let a = first (is_netlist net) NotNetlist _ (sym is ∙ e) in
@@ -54,7 +57,7 @@ pub record StepReady (net cycle : List ℕ) (nl nv : ℕ) (t : Tally) : Type 0 w
   pub room : has_room t 1 ≡ true
 
 module _ (net cycle : List ℕ) (nl nv : ℕ) (t : Tally) where
-  pub step_passed : (c : Tested) → c ≡ step_check net cycle nl nv t → c ≡ Passed → StepReady net cycle nl nv t
+  pub step_passed : (c : Result Unit Cause) → c ≡ step_check net cycle nl nv t → c ≡ Ok tt → StepReady net cycle nl nv t
   unfolding step_check
   step_passed tested is e =
       let a = first (is_netlist net) NotNetlist _ (sym is ∙ e) in
@@ -64,7 +67,7 @@ module _ (net cycle : List ℕ) (nl nv : ℕ) (t : Tally) where
       let f = both (has_latches net nl) (has_values net nv) c.0 in
       record { netlist = a.0; bits = b.0; latches = latches_enough net nl f.0; values = values_enough net nv f.1; room = d.0 }
 
-  pub step_passes : StepReady net cycle nl nv t → step_check net cycle nl nv t ≡ Passed
+  pub step_passes : StepReady net cycle nl nv t → step_check net cycle nl nv t ≡ Ok tt
   unfolding step_check has_latches has_values
   step_passes r = rw (r.netlist, r.bits, le-leb _ _ r.latches, le-leb _ _ r.values, r.room)
 
@@ -90,7 +93,7 @@ pub record RunReady (net trace : List ℕ) (nl nv nb : ℕ) (t : Tally) : Type 0
   pub room : has_room t (line_count (input_count net) trace) ≡ true
 
 module _ (net trace : List ℕ) (nl nv nb : ℕ) (t : Tally) where
-  pub run-passed : run_check net trace nl nv nb t ≡ Passed → RunReady net trace nl nv nb t
+  pub run-passed : run_check net trace nl nv nb t ≡ Ok tt → RunReady net trace nl nv nb t
   unfolding run_check is_short
   run-passed e =
       let fault = fault_of (input_count net) trace in
@@ -121,20 +124,20 @@ line_in (WrongLine k) = suc k
 line_in NotNetlist = 0
 line_in FullTally = 0
 
-unfoldable told_by : Tested → ℕ
-told_by Passed = 0
-told_by (Failed cause) = line_in cause
+unfoldable told_by : Result Unit Cause → ℕ
+told_by (Ok tt) = 0
+told_by (Err cause) = line_in cause
 
 -- behind the tests before it, and before those behind it
 line-told : (a b d g : Bool) (f k : ℕ)
-    → cond (not a) (Failed TraceTooLong) (cond (not b) (Failed NotNetlist) (cond (not (eqb f 0)) (Failed (WrongLine f)) (cond (not d) (Failed ShortBuffer) (cond (not g) (Failed FullTally) Passed)))) ≡ Failed (WrongLine k)
+    → cond (not a) (Err TraceTooLong) (cond (not b) (Err NotNetlist) (cond (not (eqb f 0)) (Err (WrongLine f)) (cond (not d) (Err ShortBuffer) (cond (not g) (Err FullTally) passes)))) ≡ Err (WrongLine k)
     → (f ≡ k) × (0 < k)
 unfolding line_in told_by
 line-told false b d g f k e = absurd (omega (arith, ap told_by e))
 line-told true false d g f k e = absurd (omega (arith, ap told_by e))
 line-told true true d g f k e = go (eqb f 0) refl d g e
   where
-    go : (c : Bool) → eqb f 0 ≡ c → (d g : Bool) → cond (not c) (Failed (WrongLine f)) (cond (not d) (Failed ShortBuffer) (cond (not g) (Failed FullTally) Passed)) ≡ Failed (WrongLine k) → (f ≡ k) × (0 < k)
+    go : (c : Bool) → eqb f 0 ≡ c → (d g : Bool) → cond (not c) (Err (WrongLine f)) (cond (not d) (Err ShortBuffer) (cond (not g) (Err FullTally) passes)) ≡ Err (WrongLine k) → (f ≡ k) × (0 < k)
     go false c d g e =
         let s : suc f ≡ suc k = ap told_by e in
         let z = eqb-false f 0 c in
@@ -146,7 +149,7 @@ line-told true true d g f k e = go (eqb f 0) refl d g e
 
 module _ (net trace : List ℕ) (nl nv nb : ℕ) (t : Tally) where
   -- the line of a refusal is the first wrong one
-  pub run-wrong-line : (k : ℕ) → run_check net trace nl nv nb t ≡ Failed (WrongLine k) → (fault_of (input_count net) trace ≡ k) × (0 < k)
+  pub run-wrong-line : (k : ℕ) → run_check net trace nl nv nb t ≡ Err (WrongLine k) → (fault_of (input_count net) trace ≡ k) × (0 < k)
   unfolding run_check
   run-wrong-line k e =
       let lines = line_count (input_count net) trace in
@@ -154,18 +157,18 @@ module _ (net trace : List ℕ) (nl nv nb : ℕ) (t : Tally) where
 
 -- ---- a call refused for its tally
 -- a refusal with 17 is not from a test with another number
-later : (a : Bool) (cause : Cause) (c : Tested) → eqb (refusal_of cause).number 17 ≡ false → cond (not a) (Failed cause) c ≡ Failed FullTally → c ≡ Failed FullTally
+later : (a : Bool) (cause : Cause) (c : Result Unit Cause) → eqb (refusal_of cause).number 17 ≡ false → cond (not a) (Err cause) c ≡ Err FullTally → c ≡ Err FullTally
 unfolding refusal_of
 later true cause c n e = e
 later false cause c n e =
     let s : cause ≡ FullTally = cc in
     absurd (true≢false (sym (ap (λ (x : Cause). eqb (refusal_of x).number 17) s) ∙ n))
 
-last : (a : Bool) → cond (not a) (Failed FullTally) Passed ≡ Failed FullTally → a ≡ false
+last : (a : Bool) → cond (not a) (Err FullTally) passes ≡ Err FullTally → a ≡ false
 last true e = let z : ◌≡◌ {A = ℕ} 0 1 = cc in absurd (omega arith)
 last false e = refl
 
-pub step_full : (net cycle : List ℕ) (nl nv : ℕ) (t : Tally) → step_check net cycle nl nv t ≡ Failed FullTally → has_room t 1 ≡ false
+pub step_full : (net cycle : List ℕ) (nl nv : ℕ) (t : Tally) → step_check net cycle nl nv t ≡ Err FullTally → has_room t 1 ≡ false
 unfolding step_check refusal_of
 step_full net cycle nl nv t e =
     let a = later (is_netlist net) NotNetlist _ refl e in
@@ -173,7 +176,7 @@ step_full net cycle nl nv t e =
     let c = later (has_latches net nl && has_values net nv) ShortBuffer _ refl b in
     last (has_room t 1) c
 
-pub run-full : (net trace : List ℕ) (nl nv nb : ℕ) (t : Tally) → run_check net trace nl nv nb t ≡ Failed FullTally → has_room t (line_count (input_count net) trace) ≡ false
+pub run-full : (net trace : List ℕ) (nl nv nb : ℕ) (t : Tally) → run_check net trace nl nv nb t ≡ Err FullTally → has_room t (line_count (input_count net) trace) ≡ false
 unfolding run_check refusal_of
 run-full net trace nl nv nb t e =
     let fault = fault_of (input_count net) trace in

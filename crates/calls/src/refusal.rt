@@ -3,9 +3,8 @@ ghost use Rattle.std.specs.Prelude.{◌≡◌, true, ◌&&◌, ◌≤◌, length
 ghost use Rattle.netlist.specs.Valid.{is_netlist};
 ghost use Rattle.calls.specs.Refusals.{refusal_of, has_latches, has_values, start_check, step_check, run_check};
 
-use crate::layout::{INPUTS, LATCHES, MAXIMUM, header};
 use crate::tally::{Tally, has_room};
-use netlist::is_netlist;
+use netlist::{Header, is_netlist};
 use text::Refusal;
 use trace::{fault, is_cycle};
 
@@ -24,13 +23,6 @@ pub enum Cause {
     NotNetlist,
     // The new cycles would take a number of the tally past 4,294,967,295.
     FullTally,
-}
-
-// What the tests before a call say.
-#[derive(Clone, Copy)]
-pub enum Tested {
-    Passed,
-    Failed(Cause),
 }
 
 impl Cause {
@@ -58,16 +50,16 @@ impl Cause {
 }
 
 // The tests of a start, with this many latch words lent.
-pub fn start_check(net: &[u16], latches: usize) -> Tested
+pub fn start_check(net: &[u16], latches: usize) -> Result<(), Cause>
     ensures { result ≡ start_check net.now latches }
 {
     if !is_netlist(net) {
-        return Tested::Failed(Cause::NotNetlist);
+        return Err(Cause::NotNetlist);
     }
-    if latches < header(net, LATCHES) {
-        return Tested::Failed(Cause::ShortBuffer);
+    if latches < Header::of(net).latches as usize {
+        return Err(Cause::ShortBuffer);
     }
-    Tested::Passed
+    Ok(())
 }
 
 // Whether there is a latch word for each latch and a value word for each variable.
@@ -75,29 +67,37 @@ fn has_words(net: &[u16], latches: usize, values: usize) -> bool
     requires { is_netlist net.now ≡ true }
     ensures { result ≡ (has_latches net.now latches && has_values net.now values) }
 {
-    if latches < header(net, LATCHES) {
+    let header = Header::of(net);
+    if latches < header.latches as usize {
         return false;
     }
-    values > header(net, MAXIMUM)
+    values > header.maximum as usize
 }
 
 // The tests of a step, with this many latch words and value words lent.
-pub fn step_check(net: &[u16], cycle: &[u8], latches: usize, values: usize, tally: Tally) -> Tested
+pub fn step_check(
+    net: &[u16],
+    cycle: &[u8],
+    latches: usize,
+    values: usize,
+    tally: Tally,
+) -> Result<(), Cause>
     ensures { result ≡ step_check net.now cycle.now latches values tally }
 {
     if !is_netlist(net) {
-        return Tested::Failed(Cause::NotNetlist);
+        return Err(Cause::NotNetlist);
     }
-    if !is_cycle(header(net, INPUTS), cycle) {
-        return Tested::Failed(Cause::WrongLine(1));
+    let header = Header::of(net);
+    if !is_cycle(header.inputs as usize, cycle) {
+        return Err(Cause::WrongLine(1));
     }
     if !has_words(net, latches, values) {
-        return Tested::Failed(Cause::ShortBuffer);
+        return Err(Cause::ShortBuffer);
     }
     if !has_room(tally, 1) {
-        return Tested::Failed(Cause::FullTally);
+        return Err(Cause::FullTally);
     }
-    Tested::Passed
+    Ok(())
 }
 
 // The tests of a run whose trace is short enough, over a netlist.
@@ -108,28 +108,28 @@ fn lines_check(
     values: usize,
     verdicts: usize,
     tally: Tally,
-) -> Tested
+) -> Result<(), Cause>
     requires net_value { is_netlist net.now ≡ true }
     requires trace_len_bound { length trace.now ≤ 1048576 }
     ensures { result ≡ run_check net.now trace.now latches values verdicts tally }
 {
-    let n = header(net, INPUTS);
+    let n = Header::of(net).inputs as usize;
     let line = fault(trace, n);
     if line != 0 {
         let wrong = line as u32;
-        return Tested::Failed(Cause::WrongLine(wrong));
+        return Err(Cause::WrongLine(wrong));
     }
     let lines = trace.len() / (n + 1);
     if !has_words(net, latches, values) {
-        return Tested::Failed(Cause::ShortBuffer);
+        return Err(Cause::ShortBuffer);
     }
     if verdicts < lines {
-        return Tested::Failed(Cause::ShortBuffer);
+        return Err(Cause::ShortBuffer);
     }
     if !has_room(tally, lines) {
-        return Tested::Failed(Cause::FullTally);
+        return Err(Cause::FullTally);
     }
-    Tested::Passed
+    Ok(())
 }
 
 // The tests of a run, with this many latch words, value words and verdict bytes lent.
@@ -140,14 +140,14 @@ pub fn run_check(
     values: usize,
     verdicts: usize,
     tally: Tally,
-) -> Tested
+) -> Result<(), Cause>
     ensures { result ≡ run_check net.now trace.now latches values verdicts tally }
 {
     if trace.len() > MAX_TRACE {
-        return Tested::Failed(Cause::TraceTooLong);
+        return Err(Cause::TraceTooLong);
     }
     if !is_netlist(net) {
-        return Tested::Failed(Cause::NotNetlist);
+        return Err(Cause::NotNetlist);
     }
     lines_check(net, trace, latches, values, verdicts, tally)
 }

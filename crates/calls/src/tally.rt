@@ -1,5 +1,5 @@
 // The caller's tally: how many cycles there were, how many of them were rejected, and in how many a rule was at stake.
-ghost use Rattle.std.specs.Prelude.{◌≡◌, ◌≤◌};
+ghost use Rattle.std.specs.Prelude.{◌≡◌, ◌+◌, leb};
 ghost use Rattle.calls.specs.Tallies.{is_rejected, is_checked, has_room};
 
 #[derive(Clone, Copy)]
@@ -30,20 +30,16 @@ pub fn is_checked(word: u64) -> bool
     word != 0
 }
 
-// Whether no number of the tally passes its 32 bits with some new cycles, of which a trace has at most one for each of
-// its 1,048,576 bytes.
+// Whether a number of the tally can grow by some cycles and stay within its 32 bits.
+fn fits(count: u32, cycles: usize) -> bool
+    ensures { result ≡ leb (count + cycles) 4294967295 }
+{
+    cycles <= MAX_COUNT - count as usize
+}
+
+// Whether no number of the tally passes its 32 bits with some new cycles.
 pub fn has_room(tally: Tally, cycles: usize) -> bool
-    requires { cycles ≤ 1048576 }
     ensures { result ≡ has_room tally cycles }
 {
-    let before = tally.cycles as usize;
-    let rejected = tally.rejected as usize;
-    let checked = tally.checked as usize;
-    if before + cycles > MAX_COUNT {
-        return false;
-    }
-    if rejected + cycles > MAX_COUNT {
-        return false;
-    }
-    checked + cycles <= MAX_COUNT
+    fits(tally.cycles, cycles) && fits(tally.rejected, cycles) && fits(tally.checked, cycles)
 }

@@ -1,8 +1,6 @@
 // The fields of a case.
 ghost use Rattle.std.specs.Prelude.{◌≤◌, length};
 
-use text::Number;
-
 // The largest number of a field.
 const MOST: usize = 4294967295;
 
@@ -22,7 +20,7 @@ fn first(s: &[u8]) -> Span
         start: s.len(),
         end: s.len(),
     };
-    let Number::Read(length, lf) = text::read_number(s, 0) else {
+    let Some((length, lf)) = text::read_number(s, 0) else {
         return none;
     };
     if s.len() <= lf {

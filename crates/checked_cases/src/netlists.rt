@@ -4,9 +4,6 @@ ghost use Rattle.std.specs.Prelude.{◌<◌};
 use crate::fields::{after, field, number_in};
 use crate::output::{write, write_number, write_refusal};
 use crate::runs;
-use aiger::Written;
-use aiger_read::ReadOutcome;
-use builder::Built;
 use std::io;
 
 // Room for the numbers of any netlist, and for any file.
@@ -29,11 +26,11 @@ fn write_counted(rt: &impl Print, n: usize, what: &[u8]) -> io::Result<()> {
 fn build(rt: &impl Print, graph: &[u8], checked: bool, net: &mut [u16]) -> io::Result<bool> {
     let built = builder::build(graph, checked, net);
     match built {
-        Built::Gates(gates) => {
+        Ok(gates) => {
             write_counted(rt, gates, b" gates")?;
             Ok(true)
         }
-        Built::Refused(cause) => {
+        Err(cause) => {
             write_refusal(rt, cause.refusal())?;
             Ok(false)
         }
@@ -44,11 +41,11 @@ fn build(rt: &impl Print, graph: &[u8], checked: bool, net: &mut [u16]) -> io::R
 fn read(rt: &impl Print, file: &[u8], net: &mut [u16]) -> io::Result<bool> {
     let outcome = aiger_read::read(file, net);
     match outcome {
-        ReadOutcome::Numbers(numbers) => {
+        Ok(numbers) => {
             write_counted(rt, numbers, b" numbers read")?;
             Ok(true)
         }
-        ReadOutcome::Refused(cause) => {
+        Err(cause) => {
             write_refusal(rt, cause.refusal())?;
             Ok(false)
         }
@@ -79,34 +76,19 @@ fn make_within(
     }
 }
 
-// Whether two buffers hold the same numbers.
-fn same_numbers(a: &[u16], b: &[u16]) -> bool {
-    if a.len() != b.len() {
-        return false;
-    }
-    let mut i = 0;
-    while i < a.len() {
-        if a[i] != b[i] {
-            return false;
-        }
-        i += 1;
-    }
-    true
-}
-
 // Writes how many numbers the file of a netlist has when it is read, and whether they are the netlist's.
 fn write_again(rt: &impl Print, net: &[u16], file: &[u8]) -> io::Result<()> {
     let mut again = [0u16; NUMBERS];
     let outcome = aiger_read::read(file, &mut again);
     match outcome {
-        ReadOutcome::Numbers(numbers) => {
-            if same_numbers(net, &again) {
+        Ok(numbers) => {
+            if net == again.as_slice() {
                 write_counted(rt, numbers, b" numbers")
             } else {
                 write_counted(rt, numbers, b" OTHER NUMBERS")
             }
         }
-        ReadOutcome::Refused(cause) => write_refusal(rt, cause.refusal()),
+        Err(cause) => write_refusal(rt, cause.refusal()),
     }
 }
 
@@ -121,10 +103,8 @@ fn sum_with(sum: usize, b: u8) -> usize
 // A sum of bytes that depends on their order.
 fn sum_of(s: &[u8]) -> usize {
     let mut sum: usize = 0;
-    let mut i = 0;
-    while i < s.len() {
-        sum = sum_with(sum, s[i]);
-        i += 1;
+    for &b in s {
+        sum = sum_with(sum, b);
     }
     sum
 }
@@ -140,10 +120,8 @@ fn write_byte(rt: &impl Print, b: u8) -> io::Result<()> {
 
 // Writes a file, each LF as a comma.
 fn write_file(rt: &impl Print, file: &[u8]) -> io::Result<()> {
-    let mut i = 0;
-    while i < file.len() {
-        write_byte(rt, file[i])?;
-        i += 1;
+    for &b in file {
+        write_byte(rt, b)?;
     }
     Ok(())
 }
@@ -166,13 +144,13 @@ fn write_written(rt: &impl Print, net: &[u16], shown: bool) -> io::Result<()> {
     let written = aiger::write(net, &mut file);
     write(rt, b", ")?;
     match written {
-        Written::Bytes(end) => {
+        Ok(end) => {
             if end <= FILE {
                 write_filed(rt, net, &file[0..end], shown)?;
             }
             Ok(())
         }
-        Written::Refused(cause) => write_refusal(rt, cause.refusal()),
+        Err(cause) => write_refusal(rt, cause.refusal()),
     }
 }
 

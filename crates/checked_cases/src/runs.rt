@@ -4,7 +4,7 @@ ghost use Rattle.std.specs.Prelude.{◌≤◌, length};
 use crate::fields::{after, after_three, field, number_in};
 use crate::output::{write, write_number, write_refusal, write_word};
 use calls::{Cause, Tally};
-use simulator::{RunOutcome, StartOutcome, StepOutcome, Verdict};
+use simulator::Verdict;
 use std::io;
 use text::Line;
 
@@ -59,8 +59,8 @@ fn start(rt: &impl Print, net: &[u16], latches: &mut [u64], tally: Tally) -> io:
     let outcome = started.outcome;
     write(rt, b"; start")?;
     match outcome {
-        StartOutcome::Ready => {}
-        StartOutcome::Refused(cause) => write_refused(rt, cause)?,
+        Ok(()) => {}
+        Err(cause) => write_refused(rt, cause)?,
     }
     write_tally(rt, started.tally)
 }
@@ -72,13 +72,11 @@ fn write_digit(rt: &impl Print, b: u8) -> io::Result<()> {
 
 // Writes the verdict bytes that a run stored, each as a number.
 fn write_verdicts(rt: &impl Print, verdicts: &[u8]) -> io::Result<()> {
-    let mut i = 0;
-    while i < verdicts.len() {
-        if verdicts[i] == FILL {
+    for &verdict in verdicts {
+        if verdict == FILL {
             return Ok(());
         }
-        write_digit(rt, verdicts[i])?;
-        i += 1;
+        write_digit(rt, verdict)?;
     }
     Ok(())
 }
@@ -94,10 +92,14 @@ fn write_done(rt: &impl Print, verdict: Verdict, verdicts: &[u8]) -> io::Result<
 }
 
 // Writes what a run answered and left in its verdict buffer.
-fn write_outcome(rt: &impl Print, outcome: RunOutcome, verdicts: &[u8]) -> io::Result<()> {
+fn write_outcome(
+    rt: &impl Print,
+    outcome: Result<Verdict, Cause>,
+    verdicts: &[u8],
+) -> io::Result<()> {
     match outcome {
-        RunOutcome::Done(verdict) => write_done(rt, verdict, verdicts),
-        RunOutcome::Refused(cause) => write_refused(rt, cause),
+        Ok(verdict) => write_done(rt, verdict, verdicts),
+        Err(cause) => write_refused(rt, cause),
     }
 }
 
@@ -148,7 +150,7 @@ fn step(
     let outcome = stepped.outcome;
     let tally = stepped.tally;
     match outcome {
-        StepOutcome::Output(accept, checked) => {
+        Ok((accept, checked)) => {
             write_word(rt, b" ", accept)?;
             write_word(rt, b"/", checked)?;
             Ok(Going {
@@ -156,7 +158,7 @@ fn step(
                 refused: false,
             })
         }
-        StepOutcome::Refused(cause) => {
+        Err(cause) => {
             write_refused(rt, cause)?;
             Ok(Going {
                 tally,

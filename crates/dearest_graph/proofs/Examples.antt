@@ -1,13 +1,13 @@
 -- What write answers and leaves, in digits: for every input, and in the request's cases. Assumes nothing.
+use Rattle.std.specs.Prelude.{Result, Ok, Err}
 use Prim.Native.Nat.{ℕ, ◌+◌, ◌*◌, ◌<◌, ◌≤◌}
 use mathlib.Core.Path.{◌≡◌, refl}
 use mathlib.Core.List.{List, [], ◌∷◌, ◌++◌, map}
 use lib.ListN.{length, drop, replicate}
 use Rattle.text.specs.Quoted.{bytes}
 use Rattle.dearest_text.specs.Dearest.{vertex_line, loop_line, dearest_text}
+use Rattle.dearest_graph.specs.declared.Cause.{Cause}
 use Rattle.dearest_graph.specs.declared.Cause.TheVariants.{EdgesOutside, ShortBuffer}
-use Rattle.dearest_graph.specs.declared.Written.{Written}
-use Rattle.dearest_graph.specs.declared.Written.TheVariants.{Bytes, Refused}
 use Rattle.dearest_graph.specs.Write.{refusal_of, is_inside, write_of}
 use Rattle.dearest_graph.proofs.WriteLaws as write
 
@@ -17,21 +17,21 @@ unfolding refusal_of
 numbers = (refl, refl)
 
 module _ (edges : ℕ) (text : List ℕ) where
-  outside : (1 ≤ edges → edges ≤ 128 → ⊥) → write_of edges text ≡ record { answer = Refused EdgesOutside; text = text }
+  outside : (1 ≤ edges → edges ≤ 128 → ⊥) → write_of edges text ≡ record { answer = Err EdgesOutside; text = text }
   outside = write.outside edges text
 
   module _ (some : 1 ≤ edges) (few : edges ≤ 128) where
-    short : length text < 4 + 12 * edges → write_of edges text ≡ record { answer = Refused ShortBuffer; text = text }
+    short : length text < 4 + 12 * edges → write_of edges text ≡ record { answer = Err ShortBuffer; text = text }
     short = write.too_short edges text some few
 
-    written : 4 + 12 * edges ≤ length text → write_of edges text ≡ record { answer = Bytes (4 + 12 * edges); text = dearest_text edges ++ drop (4 + 12 * edges) text }
+    written : 4 + 12 * edges ≤ length text → write_of edges text ≡ record { answer = Ok (4 + 12 * edges); text = dearest_text edges ++ drop (4 + 12 * edges) text }
     written = write.written edges text some few
 
 -- ---- the request's cases
 -- the number and line of a refusal, or 0 and how many bytes the text has
-abbrev told : Written → List ℕ
-told (Bytes n) = 0 ∷ n ∷ []
-told (Refused cause) = (refusal_of cause).number ∷ (refusal_of cause).line ∷ []
+abbrev told : Result ℕ Cause → List ℕ
+told (Ok n) = 0 ∷ n ∷ []
+told (Err cause) = (refusal_of cause).number ∷ (refusal_of cause).line ∷ []
 
 -- so many edges, and how many bytes are lent
 record Case : Type 0 where

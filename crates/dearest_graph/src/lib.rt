@@ -4,13 +4,13 @@
 // more: the clause `dearest` of `write`.
 #![tactic(auto)]
 
-ghost use Rattle.std.specs.Prelude.{◌≡◌, ℕ, take};
-ghost use Rattle.text.specs.Writer.{Wrote, joined};
+ghost use Rattle.std.specs.Prelude.{◌≡◌, IfOk, take};
+ghost use Rattle.text.specs.Writer.{Wrote, Writes, joined};
 ghost use Rattle.dearest_text.specs.Dearest.{loop_line, dearest_text};
 ghost use Rattle.dearest_text.specs.Claims.{Dearest};
 ghost use Rattle.dearest_graph.specs.Write.{refusal_of, write_end, write_of};
 
-use text::{Refusal, put_bytes};
+use text::{Refusal, Writer};
 
 // A graph has at most so many edges.
 const MAX_EDGES: u64 = 128;
@@ -27,13 +27,6 @@ pub enum Cause {
     EdgesOutside,
     // The buffer is shorter than the text.
     ShortBuffer,
-}
-
-#[derive(Clone, Copy)]
-pub enum Written {
-    // How many bytes the text has.
-    Bytes(usize),
-    Refused(Cause),
 }
 
 impl Cause {
@@ -55,40 +48,41 @@ impl Cause {
 }
 
 // Appends the lines of so many edges.
-fn put_edges(text: &mut [u8], at: usize, edges: u64) -> usize
-    ensures { Wrote text.old text.new at result (joined (λ _. loop_line) edges) }
+fn put_edges(text: &mut Writer, edges: u64)
+    ensures { Writes text.old text.new (joined (λ _. loop_line) edges) }
 {
-    let mut p = at;
-    let mut left = edges;
-    while left > 0 {
-        p = put_bytes(text, p, b"E\ta\ta\tt\t1\t1\n");
-        left -= 1;
+    for _ in 0..edges {
+        text.bytes(b"E\ta\ta\tt\t1\t1\n");
     }
-    p
 }
 
-// Writes the text of the graph with so many edges.
-fn put_graph(text: &mut [u8], edges: u64) -> usize
+// Appends the text of the graph with so many edges.
+fn put_graph(text: &mut Writer, edges: u64)
+    ensures { Writes text.old text.new (dearest_text edges) }
+{
+    text.bytes(b"V\ta\n");
+    put_edges(text, edges);
+}
+
+// Fills a buffer from its front with that text: its length.
+fn fill(text: &mut [u8], edges: u64) -> usize
     ensures { Wrote text.old text.new 0 result (dearest_text edges) }
 {
-    let p = put_bytes(text, 0, b"V\ta\n");
-    put_edges(text, p, edges)
+    let mut writer = Writer::new(text);
+    put_graph(&mut writer, edges);
+    writer.at
 }
 
-// Writes the dearest graph with so many edges to the front of a lent buffer.
-pub fn write(edges: u64, text: &mut [u8]) -> Written
+// Writes the dearest graph with so many edges to the front of a lent buffer. Answers how many bytes the text has.
+pub fn write(edges: u64, text: &mut [u8]) -> Result<usize, Cause>
     ensures text_after { write_end result text.new ≡ write_of edges text.old }
-    ensures dearest { (n : ℕ) → result ≡ Written.Bytes n → Dearest edges (take n text.new) }
+    ensures dearest { IfOk result (λ n. Dearest edges (take n text.new)) }
 {
-    if edges < 1 {
-        return Written::Refused(Cause::EdgesOutside);
-    }
-    if edges > MAX_EDGES {
-        return Written::Refused(Cause::EdgesOutside);
+    if edges < 1 || edges > MAX_EDGES {
+        return Err(Cause::EdgesOutside);
     }
     if text.len() < VERTEX_LINE + EDGE_LINE * (edges as usize) {
-        return Written::Refused(Cause::ShortBuffer);
+        return Err(Cause::ShortBuffer);
     }
-    let end = put_graph(text, edges);
-    Written::Bytes(end)
+    Ok(fill(text, edges))
 }

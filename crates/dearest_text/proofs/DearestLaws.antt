@@ -1,5 +1,6 @@
 -- No graph of E edges without operators costs more than 10E − 2 gates; the dearest graph's text is read as that graph, which
 -- costs just that. Assumes nothing.
+use Rattle.std.specs.Prelude.{Ok}
 use Prim.Native.Nat.{ℕ, zero, suc, ◌+◌, ◌-◌, ◌*◌, ◌≤◌}
 use mathlib.Core.Path.{◌≡◌, refl, ap, sym, subst, ◌∙◌}
 use mathlib.Core.Bool.{true, false}
@@ -21,7 +22,6 @@ use Rattle.circuit.specs.Count.{formula_gates, all_formula_gates, all_operators,
 use Rattle.circuit.proofs.Count as count
 use Rattle.demand.specs.Demand.{Demand3}
 use Rattle.builder.specs.Build.{build_of}
-use Rattle.builder.specs.declared.Built.TheVariants.{Gates}
 use Rattle.builder.proofs.GraphLaws as read
 use Rattle.builder.proofs.DemandLaws.{build_means}
 use Rattle.dearest_text.specs.Dearest.{loop, dearest_graph, vertex_line, loop_line, dearest_text}
@@ -140,11 +140,11 @@ module _ (e : ℕ) (few : e ≤ 128) where
   unfolding dearest_graph
   operatorless = record { read = graph e few; count = edges e; no_operators = no_operators e }
 
-  built : (net : List ℕ) → 1 ≤ e → 24 * e + 2 ≤ length net → (build_of false (dearest_text e) net).answer ≡ Gates (10 * e - 2)
+  built : (net : List ℕ) → 1 ≤ e → 24 * e + 2 ≤ length net → (build_of false (dearest_text e) net).answer ≡ Ok (10 * e - 2)
   built net some h =
       let n : gate_formula (dearest_graph e) + 0 ≡ 10 * e - 2 = omega (arith, cost e) in
       (build_means false (dearest_text e) net).accepts (dearest_graph e) (graph e few)
-      (omega (arith, cost e, edges e, (no_bits e).0, (no_bits e).1)) (omega (arith, cost e, edges e, (no_bits e).1)) ∙ ap Gates n
+      (omega (arith, cost e, edges e, (no_bits e).0, (no_bits e).1)) (omega (arith, cost e, edges e, (no_bits e).1)) ∙ ap Ok n
 
   pub dearest : 1 ≤ e → Dearest e (dearest_text e)
   dearest some =

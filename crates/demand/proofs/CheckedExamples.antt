@@ -1,4 +1,5 @@
 -- Document 02, No. 7, by computation: the three numbers of the tally and the second words of steps. 48 is `0`, 49 is `1`, 10 ends a line. Assumes nothing.
+use Rattle.std.specs.Prelude.{Ok}
 use Prim.Native.Nat.{ℕ}
 use mathlib.Core.Path.{◌≡◌, refl}
 use mathlib.Core.List.{List, [], ◌∷◌}
@@ -11,7 +12,6 @@ use Rattle.calls.specs.declared.tally.Tally.{Tally}
 use Rattle.calls.specs.Tallies.{cleared, is_rejected, is_checked, counted, has_room}
 use Rattle.calls.specs.Refusals.{is_short, has_latches, has_values, start_check, step_check, run_check}
 use Rattle.trace.specs.Traces.{is_bit, is_cycle, fits_line, fault_from, fault_of, line_count, cycles_from, cycles_of}
-use Rattle.simulator.specs.declared.outcome.StepOutcome.TheVariants.{Output}
 use Rattle.simulator.specs.Start.{start_bit, start_words, start_as, start_of}
 use Rattle.simulator.specs.Step.{cycle_words, output_word, word_checked, latches_after, values_after, step_as, step_of}
 use Rattle.simulator.specs.Run.{verdict_byte, verdict_of, run_cycle, run_cycles, ran_to, run_as, run_of}
@@ -67,17 +67,17 @@ unfolding called step_gives run_gives step_of step_as step_check run_of run_as r
 no_init = refl
 
 -- both words of a step on 110: rejected, and a rule at stake, in every lane
-words_with : first with_checked 2 (49 ∷ 49 ∷ 48 ∷ []) ≡ stepped (Output 0 ones)
+words_with : first with_checked 2 (49 ∷ 49 ∷ 48 ∷ []) ≡ stepped (Ok (0, ones))
 unfolding called step_gives run_gives step_of step_as step_check run_of run_as ran_to run_cycles run_cycle verdict_byte verdict_of run_check is_short fault_of fault_from fits_line line_count cycles_of cycles_from is_bit is_cycle has_room counted is_rejected is_checked start_of start_as start_words start_bit start_check has_latches has_values is_netlist is_outline header_ok output_ok latch_ok gate_ok is_within is_free free_count each lane number_of word_of literal_of variable_of is_inverted output_word word_checked latches_after values_after cycle_words output_of next_of nexts_of values_of front Rattle.netlist.specs.Meaning.gates_of gate_of bit_of lit_of signed
 words_with = refl
 
 -- the second is 0 where there is one output
-words-without : first without 2 (49 ∷ 49 ∷ 48 ∷ []) ≡ stepped (Output 0 0)
+words-without : first without 2 (49 ∷ 49 ∷ 48 ∷ []) ≡ stepped (Ok (0, 0))
 unfolding called step_gives run_gives step_of step_as step_check run_of run_as ran_to run_cycles run_cycle verdict_byte verdict_of run_check is_short fault_of fault_from fits_line line_count cycles_of cycles_from is_bit is_cycle has_room counted is_rejected is_checked start_of start_as start_words start_bit start_check has_latches has_values is_netlist is_outline header_ok output_ok latch_ok gate_ok is_within is_free free_count each lane number_of word_of literal_of variable_of is_inverted output_word word_checked latches_after values_after cycle_words output_of next_of nexts_of values_of front Rattle.netlist.specs.Meaning.gates_of gate_of bit_of lit_of signed
 words-without = refl
 
 -- 11: high in the lanes with k = 1, 0xAAAA AAAA AAAA AAAA
-lanes_of_k : first constant 3 (49 ∷ 49 ∷ []) ≡ stepped (Output ones 12297829382473034410)
+lanes_of_k : first constant 3 (49 ∷ 49 ∷ []) ≡ stepped (Ok (ones, 12297829382473034410))
 unfolding called step_gives run_gives step_of step_as step_check run_of run_as ran_to run_cycles run_cycle verdict_byte verdict_of run_check is_short fault_of fault_from fits_line line_count cycles_of cycles_from is_bit is_cycle has_room counted is_rejected is_checked start_of start_as start_words start_bit start_check has_latches has_values is_netlist is_outline header_ok output_ok latch_ok gate_ok is_within is_free free_count each lane number_of word_of literal_of variable_of is_inverted output_word word_checked latches_after values_after cycle_words output_of next_of nexts_of values_of front Rattle.netlist.specs.Meaning.gates_of gate_of bit_of lit_of signed
 lanes_of_k = refl
 

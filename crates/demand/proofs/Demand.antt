@@ -1,4 +1,6 @@
 -- Demand 3: on the monitor of a graph, whatever is called after start, tally, verdict bytes and verdicts are what the paths say. Assumes nothing.
+use Rattle.std.specs.Prelude.{Result, Ok, Err}
+use Rattle.calls.specs.declared.refusal.Cause.{Cause}
 use Prim.Native.Nat.{ℕ, zero, suc, ◌+◌, ◌-◌, ◌*◌, ◌<◌, ◌≤◌}
 use mathlib.Core.Path.{◌≡◌, refl, ap, ap₂, subst, sym, ◌∙◌}
 use mathlib.Core.Bool.{Bool, true, false, cond}
@@ -25,17 +27,13 @@ use Rattle.circuit.proofs.CheckedCount.{count_with, bound_with}
 use Rattle.circuit.proofs.Places.{free-before, free-constant, free-edge, gate_count_lem, latch_count_lem, numbers_mean, reset-edge}
 use Rattle.circuit.proofs.Machine.{flat_tokens, latches_of, flat_length}
 use Rattle.circuit.proofs.Netlist.{numbers-netlist}
-use Rattle.calls.specs.declared.refusal.Tested.{Tested}
-use Rattle.calls.specs.declared.refusal.Tested.TheVariants.{Passed, Failed}
 use Rattle.calls.specs.declared.tally.Tally.{Tally}
 use Rattle.calls.specs.Tallies.{cleared}
 use Rattle.trace.specs.Traces.{cycles_of}
 use Rattle.trace.specs.Claims.{Cycles}
 use Rattle.calls.specs.Refusals.{start_check, step_check, run_check}
-use Rattle.simulator.specs.declared.outcome.StartOutcome.TheVariants.{Ready}
 use Rattle.simulator.specs.declared.outcome.Verdict.{Verdict}
 use Rattle.simulator.specs.declared.outcome.Verdict.TheVariants.{Accepted}
-use Rattle.simulator.specs.declared.outcome.RunOutcome.TheVariants.{Done, Refused}
 use Rattle.simulator.specs.Start.{start_bit, start_words, start_as, start_of}
 use Rattle.simulator.specs.Step.{step_as, step_of}
 use Rattle.simulator.specs.Run.{verdict_of, running, run_cycles, ran_to, run_as, run_of}
@@ -67,8 +65,8 @@ none false = refl
 
 -- the verdict in an answer
 unfoldable verdict_in : Answer → Verdict
-verdict_in (ran (Done v)) = v
-verdict_in (ran (Refused cause)) = Accepted
+verdict_in (ran (Ok v)) = v
+verdict_in (ran (Err cause)) = Accepted
 verdict_in (stepped outcome) = Accepted
 
 module _ (checked : Bool) (g : Graph) (fits : Fits g) (surplus : List ℕ) where
@@ -155,30 +153,30 @@ module _ (checked : Bool) (g : Graph) (fits : Fits g) (surplus : List ℕ) where
     unfolding called step_of step_as step_gives BytesRight VerdictRight
     step_after cycle values = by (step_check net cycle (length k.latches) (length values) k.tally) refl
       where
-        by : (c : Tested) → step_check net cycle (length k.latches) (length values) k.tally ≡ c
+        by : (c : Result Unit Cause) → step_check net cycle (length k.latches) (length values) k.tally ≡ c
             → After seen (step_call cycle values) (record {
               kept = record { latches = (step_as c net cycle k.latches values k.tally).latches; tally = (step_as c net cycle k.latches values k.tally).answer.tally };
               answer = stepped (step_as c net cycle k.latches values k.tally).answer.outcome;
               cycles = step_gives (step_as c net cycle k.latches values k.tally).answer.outcome cycle;
               verdicts = [];
             })
-        by Passed e =
+        by (Ok tt) e =
             let p = step_passed net cycle (length k.latches) (length values) k.tally _ refl e in
             record { kept = one_more_lem checked g fits surplus seen cycle k.latches k.tally (cycle-length (input_count net) cycle p.bits) r; bytes = tt; verdict = tt }
-        by (Failed cause) e = record { kept = rw append-nil r; bytes = tt; verdict = tt }
+        by (Err cause) e = record { kept = rw append-nil r; bytes = tt; verdict = tt }
 
     run-after : (trace values bytes : List ℕ) → After seen (run_call trace values bytes) (called net k (run_call trace values bytes))
     unfolding called run_of run_as run_gives ran_to BytesRight VerdictRight verdict_in
     run-after trace values bytes = by (run_check net trace (length k.latches) (length values) (length bytes) k.tally) refl
       where
-        by : (c : Tested) → run_check net trace (length k.latches) (length values) (length bytes) k.tally ≡ c
+        by : (c : Result Unit Cause) → run_check net trace (length k.latches) (length values) (length bytes) k.tally ≡ c
             → After seen (run_call trace values bytes) (record {
               kept = record { latches = (run_as c net trace k.latches values bytes k.tally).latches; tally = (run_as c net trace k.latches values bytes k.tally).answer.tally };
               answer = ran (run_as c net trace k.latches values bytes k.tally).answer.outcome;
               cycles = run_gives (run_as c net trace k.latches values bytes k.tally).answer.outcome (input_count net) trace;
               verdicts = (run_as c net trace k.latches values bytes k.tally).verdicts;
             })
-        by Passed e =
+        by (Ok tt) e =
             let p = run-passed net trace (length k.latches) (length values) (length bytes) k.tally e in
             let cs = cycles_of (input_count net) trace in
             let R = run_cycles net (running k.latches values [] k.tally) cs in
@@ -188,7 +186,7 @@ module _ (checked : Bool) (g : Graph) (fits : Fits g) (surplus : List ℕ) where
               bytes = take_at R.bytes (drop (length R.bytes) bytes) (length cs) (ap length m.1 ∙ verdicts-length g seen cs) ∙ m.1;
               verdict = λ v o. subst (VerdictOfPaths g seen cs) (sym (ap verdict_of m.1) ∙ ap verdict_in o) (verdict_of-paths g seen cs);
             }
-        by (Failed cause) e = record { kept = rw append-nil r; bytes = refl; verdict = λ v o. let z : ◌≡◌ {A = ℕ} 0 1 = cc in absurd (omega arith) }
+        by (Err cause) e = record { kept = rw append-nil r; bytes = refl; verdict = λ v o. let z : ◌≡◌ {A = ℕ} 0 1 = cc in absurd (omega arith) }
 
   call_after : (x : Call) (seen : List Cycle) (k : Kept) → Right checked g fits surplus seen k.latches k.tally → After seen x (called net k x)
   call_after (step_call cycle values) seen k r = step_after seen k r cycle values
@@ -201,13 +199,13 @@ module _ (checked : Bool) (g : Graph) (fits : Fits g) (surplus : List ℕ) where
       let a = call_after x seen k r in
       (a.bytes, a.verdict, calls_right xs (seen ++ (called net k x).cycles) (called net k x).kept a.kept)
 
-  counts : (latches : List ℕ) (t : Tally) → (start_of net latches t).answer.outcome ≡ Ready → (xs : List Call) → Counted checked g net [] (kept_by (start_of net latches t)) xs
+  counts : (latches : List ℕ) (t : Tally) → (start_of net latches t).answer.outcome ≡ Ok tt → (xs : List Call) → Counted checked g net [] (kept_by (start_of net latches t)) xs
   unfolding start_of start_as
   counts latches t = by (start_check net (length latches))
     where
-      by : (c : Tested) → (start_as c net latches t).answer.outcome ≡ Ready → (xs : List Call) → Counted checked g net [] (kept_by (start_as c net latches t)) xs
-      by Passed e xs = calls_right xs [] (record { latches = start_words net (latch_count net) ++ drop (latch_count net) latches; tally = cleared }) (started latches)
-      by (Failed cause) e xs = let z : ◌≡◌ {A = ℕ} 0 1 = cc in absurd (omega arith)
+      by : (c : Result Unit Cause) → (start_as c net latches t).answer.outcome ≡ Ok tt → (xs : List Call) → Counted checked g net [] (kept_by (start_as c net latches t)) xs
+      by (Ok tt) e xs = calls_right xs [] (record { latches = start_words net (latch_count net) ++ drop (latch_count net) latches; tally = cleared }) (started latches)
+      by (Err cause) e xs = let z : ◌≡◌ {A = ℕ} 0 1 = cc in absurd (omega arith)
 
 -- the monitor's numbers, with any surplus, do what demand 3 asks
 pub demand3 : (checked : Bool) (g : Graph) → Fits g → length (gates_with checked g) + (1 + signal_bits g) + (constant_bits g + 2 * length g.edges) ≤ 4095

@@ -1,4 +1,5 @@
 -- Demand 3 on document 01's graph G, and the same computed through start and run; 48 is `0`, 49 is `1`, 10 ends a line. Assumes nothing.
+use Rattle.std.specs.Prelude.{Ok}
 use Prim.Native.Nat.{ℕ}
 use mathlib.Core.Path.{◌≡◌, refl}
 use mathlib.Core.Bool.{true, false}
@@ -15,13 +16,11 @@ use Rattle.circuit.specs.Build.{first_edge_latch, first_gate, alike_of, bit_lite
 use Rattle.circuit.specs.Gates.{inv, gate}
 use Rattle.circuit.specs.Numbers.{numbers_with, numbers_of}
 use Rattle.circuit.proofs.Fits.{Fits}
-use Rattle.calls.specs.declared.refusal.Tested.TheVariants.{Passed}
 use Rattle.calls.specs.declared.tally.Tally.{Tally}
 use Rattle.calls.specs.Tallies.{is_rejected, is_checked, counted, has_room}
 use Rattle.trace.specs.Traces.{is_bit, fits_line, fault_from, fault_of, line_count, cycles_from, cycles_of}
 use Rattle.calls.specs.Refusals.{is_short, has_latches, has_values, start_check, run_check}
 use Rattle.simulator.specs.declared.outcome.Verdict.TheVariants.{Accepted, Rejected}
-use Rattle.simulator.specs.declared.outcome.RunOutcome.TheVariants.{Done}
 use Rattle.simulator.specs.Start.{start_bit, start_words, start_as, start_of}
 use Rattle.simulator.specs.Step.{cycle_words, output_word, word_checked, latches_after, values_after}
 use Rattle.simulator.specs.Run.{verdict_byte, verdict_of, run_cycle, run_cycles, ran_to, run_as, run_of}
@@ -71,7 +70,7 @@ abbrev tally : ℕ → ℕ → Tally
 tally c r = record { cycles = c; rejected = r; checked = 0 }
 
 -- start is accepted with two latch words
-starts : start_check numbers 2 ≡ Passed
+starts : start_check numbers 2 ≡ Ok tt
 unfolding start_check has_latches is_netlist is_outline header_ok output_ok latch_ok gate_ok is_within is_free free_count each literal_of
 starts = refl
 
@@ -94,7 +93,7 @@ unfolding called run_gives run_of run_as ran_to run_cycles run_cycle verdict_byt
 ran-tally = refl
 
 -- the last cycle is accepted, the run is not
-ran-verdict : (called numbers begun (run_call trace values (9 ∷ 9 ∷ 9 ∷ 9 ∷ []))).answer ≡ ran (Done Rejected)
+ran-verdict : (called numbers begun (run_call trace values (9 ∷ 9 ∷ 9 ∷ 9 ∷ []))).answer ≡ ran (Ok Rejected)
 unfolding called run_gives run_of run_as ran_to run_cycles run_cycle verdict_byte verdict_of run_check is_short fault_of fault_from fits_line line_count cycles_of cycles_from is_bit has_room counted is_rejected is_checked start_of start_as start_words start_bit start_check has_latches has_values is_netlist is_outline header_ok output_ok latch_ok gate_ok is_within is_free free_count each lane number_of word_of literal_of variable_of is_inverted output_word word_checked latches_after values_after cycle_words output_of next_of nexts_of values_of front Rattle.netlist.specs.Meaning.gates_of gate_of bit_of lit_of signed
 ran-verdict = refl
 
@@ -102,11 +101,11 @@ ran-verdict = refl
 abbrev after_110 : Kept
 after_110 = (called numbers begun (run_call (49 ∷ 49 ∷ 48 ∷ 10 ∷ []) values (9 ∷ []))).kept
 
-first-verdict : (called numbers begun (run_call (49 ∷ 49 ∷ 48 ∷ 10 ∷ []) values (9 ∷ []))).answer ≡ ran (Done Rejected)
+first-verdict : (called numbers begun (run_call (49 ∷ 49 ∷ 48 ∷ 10 ∷ []) values (9 ∷ []))).answer ≡ ran (Ok Rejected)
 unfolding called run_gives run_of run_as ran_to run_cycles run_cycle verdict_byte verdict_of run_check is_short fault_of fault_from fits_line line_count cycles_of cycles_from is_bit has_room counted is_rejected is_checked start_of start_as start_words start_bit start_check has_latches has_values is_netlist is_outline header_ok output_ok latch_ok gate_ok is_within is_free free_count each lane number_of word_of literal_of variable_of is_inverted output_word word_checked latches_after values_after cycle_words output_of next_of nexts_of values_of front Rattle.netlist.specs.Meaning.gates_of gate_of bit_of lit_of signed
 first-verdict = refl
 
-second-verdict : (called numbers after_110 (run_call (49 ∷ 49 ∷ 49 ∷ 10 ∷ []) values (9 ∷ []))).answer ≡ ran (Done Accepted)
+second-verdict : (called numbers after_110 (run_call (49 ∷ 49 ∷ 49 ∷ 10 ∷ []) values (9 ∷ []))).answer ≡ ran (Ok Accepted)
 unfolding called run_gives run_of run_as ran_to run_cycles run_cycle verdict_byte verdict_of run_check is_short fault_of fault_from fits_line line_count cycles_of cycles_from is_bit has_room counted is_rejected is_checked start_of start_as start_words start_bit start_check has_latches has_values is_netlist is_outline header_ok output_ok latch_ok gate_ok is_within is_free free_count each lane number_of word_of literal_of variable_of is_inverted output_word word_checked latches_after values_after cycle_words output_of next_of nexts_of values_of front Rattle.netlist.specs.Meaning.gates_of gate_of bit_of lit_of signed
 second-verdict = refl
 

@@ -1,14 +1,12 @@
 -- Calls of step and run after a start, each with what was lent to it. Each is lent the same netlist, and
 -- the latch words and tally that the one before left. What a call does is the definition in its
 -- contract. Assumes nothing.
-use Rattle.std.specs.Prelude.{List, [], ◌∷◌, ℕ}
+use Rattle.std.specs.Prelude.{Result, Ok, Err, List, [], ◌∷◌, ℕ}
+use Rattle.calls.specs.declared.refusal.Cause.{Cause}
+use Rattle.simulator.specs.declared.outcome.Verdict.{Verdict}
 use Rattle.netlist.specs.Layout.{input_count}
 use Rattle.assertion.specs.Graph.{Cycle}
 use Rattle.calls.specs.declared.tally.Tally.{Tally}
-use Rattle.simulator.specs.declared.outcome.StepOutcome.{StepOutcome}
-use Rattle.simulator.specs.declared.outcome.StepOutcome.TheVariants as step
-use Rattle.simulator.specs.declared.outcome.RunOutcome.{RunOutcome}
-use Rattle.simulator.specs.declared.outcome.RunOutcome.TheVariants as run
 use Rattle.trace.specs.Traces.{cycles_of}
 use Rattle.simulator.specs.Step.{StepEnd, step_of}
 use Rattle.simulator.specs.Run.{RunEnd, run_of}
@@ -25,18 +23,18 @@ pub record Kept : Type 0 where
   pub tally : Tally
 
 -- the cycles that an accepted call gives; a refused one gives none
-unfoldable pub step_gives : StepOutcome → List ℕ → List Cycle
-step_gives (step.Output w c) cycle = cycle ∷ []
-step_gives (step.Refused cause) cycle = []
+unfoldable pub step_gives : Result (ℕ × ℕ) Cause → List ℕ → List Cycle
+step_gives (Ok (w, c)) cycle = cycle ∷ []
+step_gives (Err cause) cycle = []
 
-unfoldable pub run_gives : RunOutcome → ℕ → List ℕ → List Cycle
-run_gives (run.Done verdict) inputs trace = cycles_of inputs trace
-run_gives (run.Refused cause) inputs trace = []
+unfoldable pub run_gives : Result Verdict Cause → ℕ → List ℕ → List Cycle
+run_gives (Ok verdict) inputs trace = cycles_of inputs trace
+run_gives (Err cause) inputs trace = []
 
 -- what a call answered
 pub data Answer : Type 0 where
-  stepped : StepOutcome → Answer
-  ran : RunOutcome → Answer
+  stepped : Result (ℕ × ℕ) Cause → Answer
+  ran : Result Verdict Cause → Answer
 
 -- a call on what is kept: what is kept then, its answer, the cycles that it gave, and the verdict buffer as
 -- it left it

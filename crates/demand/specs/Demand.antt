@@ -1,14 +1,12 @@
 -- DEMAND 3. Assumes nothing.
-use Rattle.std.specs.Prelude.{◌≡◌, Bool, true, cond, List, [], ◌∷◌, ◌++◌, ℕ, ◌+◌, ◌-◌, ◌*◌, ◌≤◌, length, take}
+use Rattle.std.specs.Prelude.{Ok, ◌≡◌, Bool, true, cond, List, [], ◌∷◌, ◌++◌, ℕ, ◌+◌, ◌-◌, ◌*◌, ◌≤◌, length, take}
 use Rattle.netlist.specs.Layout.{gate_count}
 use Rattle.netlist.specs.Valid.{is_netlist}
 use Rattle.assertion.specs.Graph.{Graph, Cycle}
 use Rattle.assertion.specs.Paths.{Rejected, verdicts, count_rejected, count_checked, PathsMean}
 use Rattle.calls.specs.declared.tally.Tally.{Tally}
-use Rattle.simulator.specs.declared.outcome.StartOutcome.TheVariants.{Ready}
 use Rattle.simulator.specs.declared.outcome.Verdict.{Verdict}
 use Rattle.simulator.specs.declared.outcome.Verdict.TheVariants as verdict
-use Rattle.simulator.specs.declared.outcome.RunOutcome.TheVariants.{Done}
 use Rattle.simulator.specs.Start.{StartEnd, start_of}
 use Rattle.simulator.specs.Run.{verdict_of}
 use Rattle.circuit.specs.Count.{all_operators, terminals, gate_formula}
@@ -39,7 +37,7 @@ pub record VerdictOfPaths (g : Graph) (seen cycles : List Cycle) (v : Verdict) :
 -- each accepted run has answered it; a step has no verdict
 unfoldable pub VerdictRight : Graph → List Cycle → Call → Called → Type 0
 VerdictRight g seen (step_call cycle values) d = Unit {0}
-VerdictRight g seen (run_call trace values bytes) d = (v : Verdict) → d.answer ≡ ran (Done v) → VerdictOfPaths g seen d.cycles v
+VerdictRight g seen (run_call trace values bytes) d = (v : Verdict) → d.answer ≡ ran (Ok v) → VerdictOfPaths g seen d.cycles v
 
 -- after a list of calls, before which the cycles seen were given: each run's bytes and verdict are right; the
 -- tally's cycles are the cycles of the accepted calls, in call order; its rejected are those of them that
@@ -67,7 +65,7 @@ pub record Demand3 (checked : Bool) (g : Graph) (net : List ℕ) (made : ℕ) : 
   pub formula : made ≡ gate_formula g + cond checked (2 * terminals g g.edges - 1) 0
   pub bound : made ≤ cond checked 12 10 * length g.edges + 3 * all_operators g.edges
   -- after any accepted start, with any latch buffer and any tally, and any list of calls
-  pub counted : (latches : List ℕ) (t : Tally) → (start_of net latches t).answer.outcome ≡ Ready
+  pub counted : (latches : List ℕ) (t : Tally) → (start_of net latches t).answer.outcome ≡ Ok tt
       → (xs : List Call) → Counted checked g net [] (kept_by (start_of net latches t)) xs
   -- a cycle is counted as rejected, and has the byte 1, exactly if some setting and some rejecting path exist; and as
   -- checked exactly if some setting and some path with all antecedents met do

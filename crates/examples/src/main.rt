@@ -10,7 +10,6 @@
 ghost use Rattle.std.specs.Prelude.{◌≤◌, length};
 
 use std::io;
-use text::Number;
 
 mod answers;
 
@@ -29,7 +28,7 @@ fn field_at(input: &[u8], at: usize) -> Field
         start: input.len(),
         end: input.len(),
     };
-    let Number::Read(length, lf) = text::read_number(input, at) else {
+    let Some((length, lf)) = text::read_number(input, at) else {
         return none;
     };
     if input.len() <= lf {

@@ -1,5 +1,6 @@
 -- The clauses `checks` and `first` leave nothing open: an answer of which one holds is what the definition gives, and of
 -- what is handed back two answers of which one holds are the same. Assumes nothing.
+use Rattle.std.specs.Prelude.{Result, Ok, Err}
 use mathlib.Core.Path.{◌≡◌, refl, sym, ap, ◌∙◌}
 use mathlib.Core.Bool.{Bool, true, false}
 use mathlib.Core.Logic.{⊎_elim}
@@ -16,8 +17,7 @@ use Rattle.trace.proofs.TraceLaws.{cycle-length}
 use Rattle.trace.proofs.LineLaws.{trace-means}
 use Rattle.first_broken.specs.declared.refusal.Cause.{Cause}
 use Rattle.first_broken.specs.declared.refusal.Cause.TheVariants.{WrongVerdicts}
-use Rattle.first_broken.specs.declared.refusal.Checked.{Checked}
-use Rattle.first_broken.specs.declared.refusal.Checked.TheVariants.{Fine, Refused}
+use Rattle.first_broken.specs.declared.places.Side.TheVariants.{Flywheel, Handle}
 use Rattle.first_broken.specs.declared.places.Found.{Found}
 use Rattle.first_broken.specs.Refusals.{Measurement, check_of, is_judged}
 use Rattle.first_broken.specs.Places.{found_of}
@@ -95,14 +95,14 @@ module _ (width : ℕ) where
 
 -- ---- the check
 module _ (width : ℕ) (f h : Measurement) where
-  pub check_exact : (answer : Checked) → CheckMeans width f h (RefusedFor answer) (answer ≡ Fine) → answer ≡ check_of width f h
+  pub check_exact : (answer : Result Unit Cause) → CheckMeans width f h (RefusedFor answer) (answer ≡ Ok tt) → answer ≡ check_of width f h
   check_exact answer (too_long r l) = r.0 ∙ ⊎_elim (λ a. (flywheel_long width f h a).0) (λ b. (handle_long width f h b).0) l
   check_exact answer (wrong-width r s w) = r.0 ∙ ⊎_elim (λ a. (no_width width f h s a).0) (λ b. (too_wide width f h s b).0) w
   check_exact answer (flywheel_line k r s w) = r.0 ∙ (flywheel_wrong width f h s (suc k) (first-wrong width f.trace k w) (λ q. omega arith)).0
   check_exact answer (handle_line k cs r s t w) = r.0 ∙ (handle_wrong width f h s (faultless width f.trace cs t) (suc k) (first-wrong width h.trace k w) (λ q. omega arith)).0
   check_exact answer (wrong-verdicts cs ds r s t u n) = r.0 ∙ go (is_judged width f) refl (is_judged width h) refl
     where
-      go : (a : Bool) → is_judged width f ≡ a → (b : Bool) → is_judged width h ≡ b → Refused WrongVerdicts ≡ check_of width f h
+      go : (a : Bool) → is_judged width f ≡ a → (b : Bool) → is_judged width h ≡ b → Err WrongVerdicts ≡ check_of width f h
       go false e b d = (flywheel_unjudged width f h s (faultless width f.trace cs t) (faultless width h.trace ds u) e).0
       go true e false d = (handle_unjudged width f h s (faultless width f.trace cs t) (faultless width h.trace ds u) d).0
       go true e true d = absurd (n (rw (cycles_unique width f.trace cs t) at (judged width f e)) (rw (cycles_unique width h.trace ds u) at (judged width h d)))
@@ -131,7 +131,7 @@ pub data Same (F G H I : ℕ → List ℕ → Type 0) : Type 0 where
   same_flywheel : (at : ℕ) (line : List ℕ) → F at line → G at line → Same F G H I
   same_handle : (at : ℕ) (line : List ℕ) → H at line → I at line → Same F G H I
 
-fine-refused : (cause : Cause) → Fine ≡ Refused cause → ⊥
+fine-refused : (cause : Cause) → ◌≡◌ {A = Result Unit Cause} (Ok tt) (Err cause) → ⊥
 fine-refused cause e = let z : ◌≡◌ {A = ℕ} 0 1 = cc in omega arith
 
 order : (n m : ℕ) → (n < m → ⊥) → (m < n → ⊥) → n ≡ m
@@ -172,10 +172,10 @@ module _ (width : ℕ) (f h : Measurement) (F G H I : ℕ → List ℕ → Type 
   part-exact (refused cause p c) (refused other q d) = same_flywheel 0 [] p q
 
 -- the clause of find alone gives its equality
-pub find_exact : (width : ℕ) (f h : Measurement) (answer : Found) → BrokenFirst width f h (FoundIn answer false) (FoundIn answer true) → answer ≡ found_of width f h
+pub find_exact : (width : ℕ) (f h : Measurement) (answer : Found) → BrokenFirst width f h (FoundIn answer Flywheel) (FoundIn answer Handle) → answer ≡ found_of width f h
 find_exact width f h answer b = go (part-exact width f h _ _ _ _ b (found_first width f h (found_of width f h) refl))
   where
-    go : Same (FoundIn answer false) (FoundIn (found_of width f h) false) (FoundIn answer true) (FoundIn (found_of width f h) true) → answer ≡ found_of width f h
+    go : Same (FoundIn answer Flywheel) (FoundIn (found_of width f h) Flywheel) (FoundIn answer Handle) (FoundIn (found_of width f h) Handle) → answer ≡ found_of width f h
     go (same_flywheel at line p q) = p ∙ sym q
     go (same_handle at line p q) = p ∙ sym q
 

@@ -1,15 +1,15 @@
 -- Sessions worked with their bytes written out: what the check answers, and the part that is handed back. Assumes nothing.
+use Rattle.std.specs.Prelude.{Result, Ok, Err}
 use mathlib.Core.Path.{◌≡◌, refl}
 use mathlib.Core.List.{List, [], ◌∷◌}
 use Prim.Native.Nat.{ℕ, ◌+◌}
 use Rattle.text.specs.Quoted.{bytes}
 use Rattle.trace.specs.Traces.{is_bit, fits_line, fault_from, fault_of, line_count}
 use Rattle.trace.specs.Verdicts.{all_bits}
+use Rattle.first_broken.specs.declared.refusal.Cause.{Cause}
 use Rattle.first_broken.specs.declared.refusal.Cause.TheVariants.{TraceTooLong, WrongWidth, FlywheelLine, HandleLine, WrongVerdicts}
-use Rattle.first_broken.specs.declared.refusal.Checked.{Checked}
-use Rattle.first_broken.specs.declared.refusal.Checked.TheVariants.{Fine, Refused}
 use Rattle.first_broken.specs.Refusals.{Measurement, refusal_of, is_short, is_width, are_verdicts, is_judged, check_of}
-use Rattle.first_broken.specs.Places.{is_rejected, broken_from, broken_of, beginning, cycle_line, line_of, found_as, found_of, Part, part, cut, broken_part}
+use Rattle.first_broken.specs.Places.{is_rejected, broken_from, broken_of, beginning, cycle_line, line_of, found_as, found_of, Part, part, cut, of_side, broken_part}
 
 -- the traces of the request's page
 abbrev F : List ℕ
@@ -22,7 +22,7 @@ abbrev measured : List ℕ → List ℕ → Measurement
 measured trace verdicts = record { trace = trace; verdicts = verdicts }
 
 -- width, flywheel trace and verdicts, handle trace and verdicts; what is handed back stands in block 1 or 2, at 100 and on
-abbrev checked : ℕ → List ℕ → List ℕ → List ℕ → List ℕ → Checked
+abbrev checked : ℕ → List ℕ → List ℕ → List ℕ → List ℕ → Result Unit Cause
 checked width f fv h hv = check_of width (measured f fv) (measured h hv)
 
 abbrev handed : ℕ → List ℕ → List ℕ → List ℕ → List ℕ → Part
@@ -41,33 +41,33 @@ lines :
     × (handed 2 F (0 ∷ 0 ∷ 1 ∷ []) H (0 ∷ 1 ∷ []) ≡ handle 3 (bytes "01"))
     × (handed 2 F (0 ∷ 0 ∷ 0 ∷ []) H (1 ∷ 1 ∷ []) ≡ handle 0 (bytes "00"))
     × (handed 2 [] [] H (0 ∷ 1 ∷ []) ≡ handle 3 (bytes "01"))
-unfolding check_of is_short is_width all_bits are_verdicts is_judged is_bit fits_line fault_from fault_of line_count is_rejected broken_from broken_of beginning cycle_line line_of found_as found_of cut broken_part
+unfolding check_of is_short is_width all_bits are_verdicts is_judged is_bit fits_line fault_from fault_of line_count is_rejected broken_from broken_of beginning cycle_line line_of found_as found_of cut of_side broken_part
 lines = (refl, refl, refl, refl, refl)
 
 -- nothing rejected
 none :
     (handed 2 F (0 ∷ 0 ∷ 0 ∷ []) H (0 ∷ 0 ∷ []) ≡ flywheel 0 [])
-    × (checked 2 F (0 ∷ 0 ∷ 0 ∷ []) H (0 ∷ 0 ∷ []) ≡ Fine)
+    × (checked 2 F (0 ∷ 0 ∷ 0 ∷ []) H (0 ∷ 0 ∷ []) ≡ Ok tt)
     × (handed 2 [] [] [] [] ≡ flywheel 0 [])
-    × (checked 2 [] [] [] [] ≡ Fine)
-unfolding check_of is_short is_width all_bits are_verdicts is_judged is_bit fits_line fault_from fault_of line_count is_rejected broken_from broken_of beginning cycle_line line_of found_as found_of cut broken_part
+    × (checked 2 [] [] [] [] ≡ Ok tt)
+unfolding check_of is_short is_width all_bits are_verdicts is_judged is_bit fits_line fault_from fault_of line_count is_rejected broken_from broken_of beginning cycle_line line_of found_as found_of cut of_side broken_part
 none = (refl, refl, refl, refl)
 
 refused :
-    (checked 0 F (0 ∷ 0 ∷ 1 ∷ []) H (0 ∷ 0 ∷ []) ≡ Refused WrongWidth)
-    × (checked 65 F (0 ∷ 0 ∷ 1 ∷ []) H (0 ∷ 0 ∷ []) ≡ Refused WrongWidth)
-    × (checked 3 F (0 ∷ 0 ∷ 1 ∷ []) H (0 ∷ 0 ∷ []) ≡ Refused (FlywheelLine 1))
-    × (checked 2 (bytes "10\n11\n01") (0 ∷ 0 ∷ 1 ∷ []) H (0 ∷ 0 ∷ []) ≡ Refused (FlywheelLine 3))
-    × (checked 2 F (0 ∷ 0 ∷ 1 ∷ []) (bytes "00\n0x\n") (0 ∷ 0 ∷ []) ≡ Refused (HandleLine 2))
-    × (checked 2 (bytes "1\n") (0 ∷ []) (bytes "0\n") (0 ∷ []) ≡ Refused (FlywheelLine 1))
-    × (checked 2 (bytes "10\n1\n") (0 ∷ []) (bytes "0\n") (0 ∷ []) ≡ Refused (FlywheelLine 2))
-    × (checked 2 F (0 ∷ 0 ∷ []) H (0 ∷ 0 ∷ []) ≡ Refused WrongVerdicts)
-    × (checked 2 F (0 ∷ 0 ∷ 2 ∷ []) H (0 ∷ 0 ∷ []) ≡ Refused WrongVerdicts)
-    × (checked 2 F (1 ∷ 0 ∷ 0 ∷ []) H (0 ∷ 0 ∷ 0 ∷ []) ≡ Refused WrongVerdicts)
-    × (checked 2 [] (0 ∷ []) H (0 ∷ 0 ∷ []) ≡ Refused WrongVerdicts)
-    × (checked 2 F (0 ∷ 0 ∷ 0 ∷ []) [] (0 ∷ []) ≡ Refused WrongVerdicts)
+    (checked 0 F (0 ∷ 0 ∷ 1 ∷ []) H (0 ∷ 0 ∷ []) ≡ Err WrongWidth)
+    × (checked 65 F (0 ∷ 0 ∷ 1 ∷ []) H (0 ∷ 0 ∷ []) ≡ Err WrongWidth)
+    × (checked 3 F (0 ∷ 0 ∷ 1 ∷ []) H (0 ∷ 0 ∷ []) ≡ Err (FlywheelLine 1))
+    × (checked 2 (bytes "10\n11\n01") (0 ∷ 0 ∷ 1 ∷ []) H (0 ∷ 0 ∷ []) ≡ Err (FlywheelLine 3))
+    × (checked 2 F (0 ∷ 0 ∷ 1 ∷ []) (bytes "00\n0x\n") (0 ∷ 0 ∷ []) ≡ Err (HandleLine 2))
+    × (checked 2 (bytes "1\n") (0 ∷ []) (bytes "0\n") (0 ∷ []) ≡ Err (FlywheelLine 1))
+    × (checked 2 (bytes "10\n1\n") (0 ∷ []) (bytes "0\n") (0 ∷ []) ≡ Err (FlywheelLine 2))
+    × (checked 2 F (0 ∷ 0 ∷ []) H (0 ∷ 0 ∷ []) ≡ Err WrongVerdicts)
+    × (checked 2 F (0 ∷ 0 ∷ 2 ∷ []) H (0 ∷ 0 ∷ []) ≡ Err WrongVerdicts)
+    × (checked 2 F (1 ∷ 0 ∷ 0 ∷ []) H (0 ∷ 0 ∷ 0 ∷ []) ≡ Err WrongVerdicts)
+    × (checked 2 [] (0 ∷ []) H (0 ∷ 0 ∷ []) ≡ Err WrongVerdicts)
+    × (checked 2 F (0 ∷ 0 ∷ 0 ∷ []) [] (0 ∷ []) ≡ Err WrongVerdicts)
     × (handed 2 F (1 ∷ 0 ∷ 0 ∷ []) H (0 ∷ 0 ∷ 0 ∷ []) ≡ flywheel 0 [])
-unfolding check_of is_short is_width all_bits are_verdicts is_judged is_bit fits_line fault_from fault_of line_count is_rejected broken_from broken_of beginning cycle_line line_of found_as found_of cut broken_part
+unfolding check_of is_short is_width all_bits are_verdicts is_judged is_bit fits_line fault_from fault_of line_count is_rejected broken_from broken_of beginning cycle_line line_of found_as found_of cut of_side broken_part
 refused = (refl, refl, refl, refl, refl, refl, refl, refl, refl, refl, refl, refl, refl)
 
 numbers :

@@ -1,4 +1,5 @@
 -- The earliest rejected cycle, and the part that is handed back. Assumes nothing.
+use Rattle.std.specs.Prelude.{Result, Ok, Err, Option, Some, None}
 use mathlib.Core.Path.{◌≡◌, refl, sym, ap}
 use mathlib.Core.Bool.{Bool, true, false, cond}
 use mathlib.Core.List.{List}
@@ -12,13 +13,11 @@ use lib.Seq.{length-take-le}
 use borrow.Author.Tests.{eqb-true, eqb-false, leb-true, leb-false}
 use Rattle.trace.specs.Traces.{cycles_of}
 use Rattle.first_broken.specs.declared.refusal.Cause.{Cause}
-use Rattle.first_broken.specs.declared.refusal.Checked.{Checked}
-use Rattle.first_broken.specs.declared.refusal.Checked.TheVariants.{Fine, Refused}
-use Rattle.first_broken.specs.declared.places.Broken.{Broken}
-use Rattle.first_broken.specs.declared.places.Broken.TheVariants.{Nowhere, Flywheel, Handle}
+use Rattle.first_broken.specs.declared.places.Side.{Side}
+use Rattle.first_broken.specs.declared.places.Side.TheVariants.{Flywheel, Handle}
 use Rattle.first_broken.specs.declared.places.Found.{Found}
 use Rattle.first_broken.specs.Refusals.{Measurement, check_of}
-use Rattle.first_broken.specs.Places.{is_rejected, broken_from, broken_of, beginning, cycle_line, line_of, found_as, found_of, Part, part, cut, broken_part}
+use Rattle.first_broken.specs.Places.{is_rejected, broken_from, broken_of, beginning, cycle_line, line_of, found_as, found_of, Part, part, cut, of_side, broken_part}
 use Rattle.first_broken.specs.Claims.{LineAt, Accepts, BrokenFirst, FoundIn, StandsIn}
 use Rattle.first_broken.specs.Claims.BrokenFirst.{flywheel_broke, handle_broke, neither_broke, refused}
 use Rattle.first_broken.proofs.RefusalLaws.{is-trace, Whole, Ready, ready}
@@ -31,10 +30,10 @@ module _ (f h : List ℕ) where
   Neither k = (is_rejected f k ≡ false) × (is_rejected h k ≡ false)
 
   -- what is found from cycle n on
-  pub data Search (left n : ℕ) (b : Broken) : Type 0 where
-    nowhere : b ≡ Nowhere → ((k : ℕ) → n ≤ k → k < n + left → Neither k) → Search left n b
-    flywheel_first : (m : ℕ) → b ≡ Flywheel m → m < n + left → is_rejected f m ≡ true → ((k : ℕ) → n ≤ k → k < m → Neither k) → Search left n b
-    handle_first : (m : ℕ) → b ≡ Handle m → m < n + left → is_rejected f m ≡ false → is_rejected h m ≡ true
+  pub data Search (left n : ℕ) (b : Option (Side × ℕ)) : Type 0 where
+    nowhere : b ≡ None → ((k : ℕ) → n ≤ k → k < n + left → Neither k) → Search left n b
+    flywheel_first : (m : ℕ) → b ≡ Some (Flywheel, m) → m < n + left → is_rejected f m ≡ true → ((k : ℕ) → n ≤ k → k < m → Neither k) → Search left n b
+    handle_first : (m : ℕ) → b ≡ Some (Handle, m) → m < n + left → is_rejected f m ≡ false → is_rejected h m ≡ true
         → ((k : ℕ) → n ≤ k → k < m → Neither k) → Search left n b
 
   -- cycle n joins those after it
@@ -51,7 +50,7 @@ module _ (f h : List ℕ) where
   search_from (suc left) n = go (is_rejected f n) refl (is_rejected h n) refl (search_from left (suc n))
     where
       go : (t : Bool) → is_rejected f n ≡ t → (u : Bool) → is_rejected h n ≡ u → Search left (suc n) (broken_from left (suc n) f h)
-          → Search (suc left) n (cond (is_rejected f n) (Flywheel n) (cond (is_rejected h n) (Handle n) (broken_from left (suc n) f h)))
+          → Search (suc left) n (cond (is_rejected f n) (Some (Flywheel, n)) (cond (is_rejected h n) (Some (Handle, n)) (broken_from left (suc n) f h)))
       go true e u d s = flywheel_first n (rw e) (omega arith) e (λ k a b. absurd (omega arith))
       go false e true d s = handle_first n (rw (e, d)) (omega arith) e d (λ k a b. absurd (omega arith))
       go false e false d (nowhere is none) = nowhere (rw (e, d) is) (λ k a b. joined n k Neither (e, d) (λ l. none k l (omega arith)) a)
@@ -65,16 +64,15 @@ module _ (f h : List ℕ) where
   search = search_from (max (length f) (length h)) 0
 
 -- the cycle that is found
-unfoldable pub cycle_of : Broken → ℕ
-cycle_of Nowhere = 0
-cycle_of (Flywheel n) = n
-cycle_of (Handle n) = n
+unfoldable pub cycle_of : Option (Side × ℕ) → ℕ
+cycle_of None = 0
+cycle_of (Some (side, n)) = n
 
 cycle-within : (f h : List ℕ) (most : ℕ) → length f ≤ most → length h ≤ most → cycle_of (broken_of f h) ≤ most
 unfolding cycle_of
 cycle-within f h most a d = go (broken_of f h) (search f h)
   where
-    go : (b : Broken) → Search f h (max (length f) (length h)) 0 b → cycle_of b ≤ most
+    go : (b : Option (Side × ℕ)) → Search f h (max (length f) (length h)) 0 b → cycle_of b ≤ most
     go b (nowhere is none) = rw is (omega arith)
     go b (flywheel_first m is l t none) = rw is (omega (arith, max-le a d))
     go b (handle_first m is l t u none) = rw is (omega (arith, max-le a d))
@@ -89,7 +87,7 @@ place-fits n width a b = let l : width + 1 ≤ 65 = omega arith in mul-le-mul a 
 
 -- ---- the search, a cycle at a time: n of so many are behind it
 module _ (f h : List ℕ) (cycles n : ℕ) where
-  pub turn_end_lem : cycles ≤ n → broken_from (cycles - n) n f h ≡ Nowhere
+  pub turn_end_lem : cycles ≤ n → broken_from (cycles - n) n f h ≡ None
   unfolding broken_from
   turn_end_lem l = let e : cycles - n ≡ 0 = omega arith in rw e
 
@@ -97,12 +95,12 @@ module _ (f h : List ℕ) (cycles n : ℕ) where
     more : cycles - n ≡ suc (cycles - (n + 1))
     more = omega arith
 
-    pub turn_flywheel : is_rejected f n ≡ true → broken_from (cycles - n) n f h ≡ Flywheel n
+    pub turn_flywheel : is_rejected f n ≡ true → broken_from (cycles - n) n f h ≡ Some (Flywheel, n)
     unfolding broken_from
     turn_flywheel e = rw (more, e)
 
     module _ (a : is_rejected f n ≡ false) where
-      pub turn_handle : is_rejected h n ≡ true → broken_from (cycles - n) n f h ≡ Handle n
+      pub turn_handle : is_rejected h n ≡ true → broken_from (cycles - n) n f h ≡ Some (Handle, n)
       unfolding broken_from
       turn_handle e = rw (more, a, e)
 
@@ -162,15 +160,16 @@ module _ (width : ℕ) (f h : Measurement) where
 
   module _ (OfFlywheel OfHandle : ℕ → List ℕ → Type 0) where
     -- an answer that is the part of which found tells
-    abbrev pub Placed : Found → Type 0
-    Placed found =
-        cond found.handle
-        (OfHandle found.at (take found.length (drop found.at h.trace)))
-        (OfFlywheel found.at (take found.length (drop found.at f.trace)))
+    abbrev pub PlacedOn : Side → Found → Type 0
+    PlacedOn Flywheel found = OfFlywheel found.at (take found.length (drop found.at f.trace))
+    PlacedOn Handle found = OfHandle found.at (take found.length (drop found.at h.trace))
 
-    broken : check_of width f h ≡ Fine → (b : Broken) → Search f.verdicts h.verdicts (max (length f.verdicts) (length h.verdicts)) 0 b
+    abbrev pub Placed : Found → Type 0
+    Placed found = PlacedOn found.side found
+
+    broken : check_of width f h ≡ Ok tt → (b : Option (Side × ℕ)) → Search f.verdicts h.verdicts (max (length f.verdicts) (length h.verdicts)) 0 b
         → Placed (line_of width b) → BrokenFirst width f h OfFlywheel OfHandle
-    unfolding line_of cycle_line beginning
+    unfolding line_of cycle_line beginning of_side
     broken e b (nowhere is none) p = neither_broke (rw is at p) e (λ k. accepts (ready width f h e) k (neither f.verdicts h.verdicts none k))
     broken e b (flywheel_first m is l t none) p =
         let r = ready width f h e in
@@ -181,12 +180,12 @@ module _ (width : ℕ) (f h : Measurement) where
         (accepted-byte f.verdicts m (r.flywheel.verdicts.bits m) t) (λ k a. accepts r k (none k (omega arith) a))
 
     pub breaks : Placed (found_of width f h) → BrokenFirst width f h OfFlywheel OfHandle
-    unfolding found_of found_as line_of cycle_line beginning
+    unfolding found_of found_as line_of cycle_line beginning of_side
     breaks = go (check_of width f h) refl
       where
-        go : (c : Checked) → check_of width f h ≡ c → Placed (found_as c width (broken_of f.verdicts h.verdicts)) → BrokenFirst width f h OfFlywheel OfHandle
-        go Fine e p = broken e (broken_of f.verdicts h.verdicts) (search f.verdicts h.verdicts) p
-        go (Refused cause) e p = refused cause p e
+        go : (c : Result Unit Cause) → check_of width f h ≡ c → Placed (found_as c width (broken_of f.verdicts h.verdicts)) → BrokenFirst width f h OfFlywheel OfHandle
+        go (Ok tt) e p = broken e (broken_of f.verdicts h.verdicts) (search f.verdicts h.verdicts) p
+        go (Err cause) e p = refused cause p e
 
     -- where an answer tells it
     pub stays : (found : Found) → found ≡ found_of width f h → Placed found → BrokenFirst width f h OfFlywheel OfHandle
@@ -196,40 +195,41 @@ module _ (width : ℕ) (f h : Measurement) where
 module _ (width : ℕ) (f h : Measurement) where
   -- the trace of which found tells
   abbrev pub trace_of : Found → List ℕ
-  trace_of found = cond found.handle h.trace f.trace
+  trace_of found = of_side found.side f.trace h.trace
 
-  line_of-within : check_of width f h ≡ Fine → (b : Broken) → Search f.verdicts h.verdicts (max (length f.verdicts) (length h.verdicts)) 0 b
+  line_of-within : check_of width f h ≡ Ok tt → (b : Option (Side × ℕ)) → Search f.verdicts h.verdicts (max (length f.verdicts) (length h.verdicts)) 0 b
       → (line_of width b).at + (line_of width b).length ≤ length (trace_of (line_of width b))
-  unfolding line_of cycle_line beginning
+  unfolding line_of cycle_line beginning of_side
   line_of-within e b (nowhere is none) = rw is (omega arith)
   line_of-within e b (flywheel_first m is l t none) = rw is (rejected-ends width f (ready width f h e).flywheel m t)
   line_of-within e b (handle_first m is l t u none) = rw is (rejected-ends width h (ready width f h e).handle m u)
 
   pub found_within : (found : Found) → found ≡ found_of width f h → found.at + found.length ≤ length (trace_of found)
-  unfolding found_of found_as line_of cycle_line beginning
+  unfolding found_of found_as line_of cycle_line beginning of_side
   found_within found e = rw e (go (check_of width f h) refl)
     where
-      go : (c : Checked) → check_of width f h ≡ c
+      go : (c : Result Unit Cause) → check_of width f h ≡ c
           → (found_as c width (broken_of f.verdicts h.verdicts)).at + (found_as c width (broken_of f.verdicts h.verdicts)).length
           ≤ length (trace_of (found_as c width (broken_of f.verdicts h.verdicts)))
-      go Fine e = line_of-within e (broken_of f.verdicts h.verdicts) (search f.verdicts h.verdicts)
-      go (Refused cause) e = omega arith
+      go (Ok tt) e = line_of-within e (broken_of f.verdicts h.verdicts) (search f.verdicts h.verdicts)
+      go (Err cause) e = omega arith
 
   -- no place is past 1,048,576
-  short : check_of width f h ≡ Fine → (found : Found) → found.at + found.length ≤ length (trace_of found) → found.at + found.length ≤ 1048576
-  short e found l = go found.handle refl
+  short : check_of width f h ≡ Ok tt → (found : Found) → found.at + found.length ≤ length (trace_of found) → found.at + found.length ≤ 1048576
+  unfolding of_side
+  short e found l = go found.side refl
     where
-      go : (b : Bool) → found.handle ≡ b → found.at + found.length ≤ 1048576
-      go true b = let w = rw b at l in omega (arith, (ready width f h e).handle.short)
-      go false b = let w = rw b at l in omega (arith, (ready width f h e).flywheel.short)
+      go : (b : Side) → found.side ≡ b → found.at + found.length ≤ 1048576
+      go Handle b = let w = rw b at l in omega (arith, (ready width f h e).handle.short)
+      go Flywheel b = let w = rw b at l in omega (arith, (ready width f h e).flywheel.short)
 
   pub found-small : (found : Found) → found ≡ found_of width f h → found.at + found.length ≤ 1048576
-  unfolding found_of found_as line_of cycle_line beginning
+  unfolding found_of found_as line_of cycle_line beginning of_side
   found-small found e = go (check_of width f h) refl e
     where
-      go : (c : Checked) → check_of width f h ≡ c → found ≡ found_as c width (broken_of f.verdicts h.verdicts) → found.at + found.length ≤ 1048576
-      go Fine d q = short d found (found_within found e)
-      go (Refused cause) d q = rw q (omega arith)
+      go : (c : Result Unit Cause) → check_of width f h ≡ c → found ≡ found_as c width (broken_of f.verdicts h.verdicts) → found.at + found.length ≤ 1048576
+      go (Ok tt) d q = short d found (found_within found e)
+      go (Err cause) d q = rw q (omega arith)
 
 -- the length of what is cut
 cut-length : (trace : List ℕ) (at count : ℕ) → at + count ≤ length trace → count ≡ length (take count (drop at trace))
@@ -237,22 +237,23 @@ cut-length trace at count l = let d = length-drop at trace in sym (length-take-l
 
 -- ---- find's answer
 module _ (width : ℕ) (f h : Measurement) where
-  pub found-fine : check_of width f h ≡ Fine → line_of width (broken_of f.verdicts h.verdicts) ≡ found_of width f h
+  pub found-fine : check_of width f h ≡ Ok tt → line_of width (broken_of f.verdicts h.verdicts) ≡ found_of width f h
   unfolding found_of found_as
   found-fine e = rw e
 
-  pub found-refused : (cause : Cause) → check_of width f h ≡ Refused cause → beginning ≡ found_of width f h
+  pub found-refused : (cause : Cause) → check_of width f h ≡ Err cause → beginning ≡ found_of width f h
   unfolding found_of found_as
   found-refused cause e = rw e
 
 module _ (width : ℕ) (f h : Measurement) (found : Found) (e : found ≡ found_of width f h) where
-  pub found_first : BrokenFirst width f h (FoundIn found false) (FoundIn found true)
-  found_first = stays width f h (FoundIn found false) (FoundIn found true) found e (go found.handle refl)
+  pub found_first : BrokenFirst width f h (FoundIn found Flywheel) (FoundIn found Handle)
+  unfolding of_side
+  found_first = stays width f h (FoundIn found Flywheel) (FoundIn found Handle) found e (go found.side refl)
     where
-      go : (b : Bool) → found.handle ≡ b
-          → cond b (FoundIn found true found.at (take found.length (drop found.at h.trace))) (FoundIn found false found.at (take found.length (drop found.at f.trace)))
-      go true b = let l = cut-length h.trace found.at found.length (rw b at (found_within width f h found e)) in λ i. record { handle = b i; at = found.at; length = l i }
-      go false b = let l = cut-length f.trace found.at found.length (rw b at (found_within width f h found e)) in λ i. record { handle = b i; at = found.at; length = l i }
+      go : (b : Side) → found.side ≡ b
+          → PlacedOn width f h (FoundIn found Flywheel) (FoundIn found Handle) b found
+      go Handle b = let l = cut-length h.trace found.at found.length (rw b at (found_within width f h found e)) in λ i. record { side = b i; at = found.at; length = l i }
+      go Flywheel b = let l = cut-length f.trace found.at found.length (rw b at (found_within width f h found e)) in λ i. record { side = b i; at = found.at; length = l i }
 
 -- ---- first_broken's answer
 -- bytes that begin at a place are cut there
@@ -278,10 +279,10 @@ module _ (width : ℕ) (f h : Measurement) (found : Found) (e : found ≡ found_
   first : Placed width f h (StandsIn p bytes fp) (StandsIn p bytes hp) found → BrokenFirst width f h (StandsIn p bytes fp) (StandsIn p bytes hp)
   first = stays width f h (StandsIn p bytes fp) (StandsIn p bytes hp) found e
 
-  pub of_handle : found.handle ≡ true → part p bytes ≡ cut (part hp h.trace) found.at found.length → Handed
-  unfolding broken_part
+  pub of_handle : found.side ≡ Handle → part p bytes ≡ cut (part hp h.trace) found.at found.length → Handed
+  unfolding broken_part of_side
   of_handle b is = (rw (← e, b) is, first (rw b (stands hp h.trace is)))
 
-  pub of_flywheel : found.handle ≡ false → part p bytes ≡ cut (part fp f.trace) found.at found.length → Handed
-  unfolding broken_part
+  pub of_flywheel : found.side ≡ Flywheel → part p bytes ≡ cut (part fp f.trace) found.at found.length → Handed
+  unfolding broken_part of_side
   of_flywheel b is = (rw (← e, b) is, first (rw b (stands fp f.trace is)))

@@ -1,4 +1,5 @@
 -- What the check answers at each of its tests, and what that means. Assumes nothing.
+use Rattle.std.specs.Prelude.{Result, Ok, Err}
 use mathlib.Core.Path.{◌≡◌, refl, sym, ◌∙◌}
 use mathlib.Core.Bool.{Bool, true, false, cond, not, ◌&&◌, and-false, true≢false}
 use mathlib.Core.Logic.{inl, inr}
@@ -17,8 +18,6 @@ use Rattle.trace.proofs.VerdictLaws.{bits, bits_of_all}
 use Rattle.trace.proofs.LineLaws.{trace-means}
 use Rattle.first_broken.specs.declared.refusal.Cause.{Cause}
 use Rattle.first_broken.specs.declared.refusal.Cause.TheVariants.{TraceTooLong, WrongWidth, FlywheelLine, HandleLine, WrongVerdicts}
-use Rattle.first_broken.specs.declared.refusal.Checked.{Checked}
-use Rattle.first_broken.specs.declared.refusal.Checked.TheVariants.{Fine, Refused}
 use Rattle.first_broken.specs.Refusals.{Measurement, refusal_of, is_short, is_width, are_verdicts, is_judged, check_of}
 use Rattle.first_broken.specs.Claims.{Short, Sized, IsTrace, Judged, CheckMeans, RefusedFor}
 use Rattle.first_broken.specs.Claims.CheckMeans.{too_long, wrong-width, flywheel_line, handle_line, wrong-verdicts, fine}
@@ -41,25 +40,25 @@ pub is-trace : (width : ℕ) (trace : List ℕ) → fault_of width trace ≡ 0 �
 is-trace width trace e = let w = (trace-means width trace).whole e in record { lines = w.0; right = w.1 }
 
 -- ---- each test: the answer is what the definition gives, and what it means
-abbrev pub Answered : ℕ → Measurement → Measurement → Checked → Type 0
-Answered width f h answer = (answer ≡ check_of width f h) × CheckMeans width f h (RefusedFor answer) (answer ≡ Fine)
+abbrev pub Answered : ℕ → Measurement → Measurement → Result Unit Cause → Type 0
+Answered width f h answer = (answer ≡ check_of width f h) × CheckMeans width f h (RefusedFor answer) (answer ≡ Ok tt)
 
 module _ (width : ℕ) (f h : Measurement) where
-  pub flywheel_long : 1048576 < length f.trace → Answered width f h (Refused TraceTooLong)
+  pub flywheel_long : 1048576 < length f.trace → Answered width f h (Err TraceTooLong)
   unfolding check_of is_short refusal_of
   flywheel_long l = (rw (lt-leb (length f.trace) 1048576 l), too_long (refl, refl) (inl l))
 
-  pub handle_long : 1048576 < length h.trace → Answered width f h (Refused TraceTooLong)
+  pub handle_long : 1048576 < length h.trace → Answered width f h (Err TraceTooLong)
   unfolding check_of is_short refusal_of
   handle_long l = (rw (lt-leb (length h.trace) 1048576 l, and-false (leb (length f.trace) 1048576)), too_long (refl, refl) (inr l))
 
   module _ (s : Short f h) where
-    pub no_width : width ≡ 0 → Answered width f h (Refused WrongWidth)
+    pub no_width : width ≡ 0 → Answered width f h (Err WrongWidth)
     unfolding check_of is_short is_width refusal_of
     no_width e =
         (rw (le-leb _ _ s.flywheel_short, le-leb _ _ s.handle_short, lt-leb 1 width (omega arith)), wrong-width (refl, refl) s (inl e))
 
-    pub too_wide : 64 < width → Answered width f h (Refused WrongWidth)
+    pub too_wide : 64 < width → Answered width f h (Err WrongWidth)
     unfolding check_of is_short is_width refusal_of
     too_wide l =
         (rw (le-leb _ _ s.flywheel_short, le-leb _ _ s.handle_short, lt-leb width 64 l, and-false (leb 1 width)), wrong-width (refl, refl) s (inr l))
@@ -67,27 +66,27 @@ module _ (width : ℕ) (f h : Measurement) where
   module _ (s : Sized width f h) where
     -- past the sizes, the lines decide
     sized : check_of width f h
-        ≡ cond (not (eqb (fault_of width f.trace) 0)) (Refused (FlywheelLine (fault_of width f.trace)))
-        (cond (not (eqb (fault_of width h.trace) 0)) (Refused (HandleLine (fault_of width h.trace)))
-        (cond (not (is_judged width f && is_judged width h)) (Refused WrongVerdicts) Fine))
+        ≡ cond (not (eqb (fault_of width f.trace) 0)) (Err (FlywheelLine (fault_of width f.trace)))
+        (cond (not (eqb (fault_of width h.trace) 0)) (Err (HandleLine (fault_of width h.trace)))
+        (cond (not (is_judged width f && is_judged width h)) (Err WrongVerdicts) (Ok tt)))
     unfolding check_of is_short is_width
     sized = rw (le-leb _ _ s.short.flywheel_short, le-leb _ _ s.short.handle_short, le-leb 1 width s.some, le-leb width 64 s.most)
 
-    pub flywheel_wrong : (k : ℕ) → k ≡ fault_of width f.trace → (k ≡ 0 → ⊥) → Answered width f h (Refused (FlywheelLine k))
+    pub flywheel_wrong : (k : ℕ) → k ≡ fault_of width f.trace → (k ≡ 0 → ⊥) → Answered width f h (Err (FlywheelLine k))
     unfolding refusal_of
     flywheel_wrong zero e w = absurd (w refl)
     flywheel_wrong (suc k) e w =
         (rw (sized, ← e, ne_eqb (suc k) 0 w), flywheel_line k (refl, refl) s ((trace-means width f.trace).first k (sym e)))
 
     module _ (none : fault_of width f.trace ≡ 0) where
-      pub handle_wrong : (k : ℕ) → k ≡ fault_of width h.trace → (k ≡ 0 → ⊥) → Answered width f h (Refused (HandleLine k))
+      pub handle_wrong : (k : ℕ) → k ≡ fault_of width h.trace → (k ≡ 0 → ⊥) → Answered width f h (Err (HandleLine k))
       unfolding refusal_of
       handle_wrong zero e w = absurd (w refl)
       handle_wrong (suc k) e w =
           (rw (sized, none, ← e, ne_eqb (suc k) 0 w), handle_line k _ (refl, refl) s (is-trace width f.trace none) ((trace-means width h.trace).first k (sym e)))
 
       module _ (none' : fault_of width h.trace ≡ 0) where
-        verdicts-wrong : (is_judged width f && is_judged width h) ≡ false → Answered width f h (Refused WrongVerdicts)
+        verdicts-wrong : (is_judged width f && is_judged width h) ≡ false → Answered width f h (Err WrongVerdicts)
         unfolding refusal_of
         verdicts-wrong e =
             (rw (sized, none, none', e), wrong-verdicts _ _ (refl, refl) s (is-trace width f.trace none) (is-trace width h.trace none') other)
@@ -95,13 +94,13 @@ module _ (width : ℕ) (f h : Measurement) where
             other : Judged (cycles_of width f.trace) f.verdicts → Judged (cycles_of width h.trace) h.verdicts → ⊥
             other a b = true≢false (rw (is_judged_lem width f a, is_judged_lem width h b) at e)
 
-        pub flywheel_unjudged : is_judged width f ≡ false → Answered width f h (Refused WrongVerdicts)
+        pub flywheel_unjudged : is_judged width f ≡ false → Answered width f h (Err WrongVerdicts)
         flywheel_unjudged e = verdicts-wrong (rw e)
 
-        pub handle_unjudged : is_judged width h ≡ false → Answered width f h (Refused WrongVerdicts)
+        pub handle_unjudged : is_judged width h ≡ false → Answered width f h (Err WrongVerdicts)
         handle_unjudged e = verdicts-wrong (rw (e, and-false (is_judged width f)))
 
-        pub nothing-wrong : is_judged width f ≡ true → is_judged width h ≡ true → Answered width f h Fine
+        pub nothing-wrong : is_judged width f ≡ true → is_judged width h ≡ true → Answered width f h (Ok tt)
         nothing-wrong a b =
             (rw (sized, none, none', a, b), fine _ _ refl s (is-trace width f.trace none) (is-trace width h.trace none') (judged width f a) (judged width h b))
 
@@ -118,11 +117,11 @@ pub record Ready (width : ℕ) (f h : Measurement) : Type 0 where
   pub handle : Whole width h
 
 -- a test that passed, and those that follow it
-passed : (a : Bool) (cause : Cause) (c : Checked) → cond (not a) (Refused cause) c ≡ Fine → (a ≡ true) × (c ≡ Fine)
+passed : (a : Bool) (cause : Cause) (c : Result Unit Cause) → cond (not a) (Err cause) c ≡ Ok tt → (a ≡ true) × (c ≡ Ok tt)
 passed true cause c e = (refl, e)
 passed false cause c e = let z : ◌≡◌ {A = ℕ} 0 1 = cc in absurd (omega arith)
 
-pub ready : (width : ℕ) (f h : Measurement) → check_of width f h ≡ Fine → Ready width f h
+pub ready : (width : ℕ) (f h : Measurement) → check_of width f h ≡ Ok tt → Ready width f h
 unfolding check_of is_short is_width
 ready width f h e =
     let first = fault_of width f.trace in

@@ -1,11 +1,10 @@
 -- What the contracts of check, find and first_broken claim of their answers, without the tests and the search of the
 -- definitions. Assumes nothing.
-use Rattle.std.specs.Prelude.{◌≡◌, Bool, ◌⊎◌, List, [], ◌∷◌, ◌++◌, ℕ, suc, ◌+◌, ◌<◌, ◌≤◌, length, get_or}
+use Rattle.std.specs.Prelude.{Result, Ok, Err, ◌≡◌, ◌⊎◌, List, [], ◌∷◌, ◌++◌, ℕ, suc, ◌+◌, ◌<◌, ◌≤◌, length, get_or}
 use Rattle.trace.specs.Claims.{Cycles, lines_of, FirstWrong}
 use Rattle.first_broken.specs.declared.refusal.Cause.{Cause}
 use Rattle.first_broken.specs.declared.refusal.Cause.TheVariants.{TraceTooLong, WrongWidth, FlywheelLine, HandleLine, WrongVerdicts}
-use Rattle.first_broken.specs.declared.refusal.Checked.{Checked}
-use Rattle.first_broken.specs.declared.refusal.Checked.TheVariants.{Fine, Refused}
+use Rattle.first_broken.specs.declared.places.Side.{Side}
 use Rattle.first_broken.specs.declared.places.Found.{Found}
 use Rattle.first_broken.specs.Refusals.{Measurement, refusal_of, check_of}
 
@@ -54,8 +53,8 @@ pub data CheckMeans (width : ℕ) (flywheel handle : Measurement) (Refuses : Cau
       → CheckMeans width flywheel handle Refuses Passes
 
 -- what an answer of check says of a cause, and the number and line in which that is reported
-abbrev pub RefusedFor : Checked → Cause → ℕ → ℕ → Type 0
-RefusedFor answer cause number line = (answer ≡ Refused cause) × (refusal_of cause ≡ record { number = number; line = line })
+abbrev pub RefusedFor : Result Unit Cause → Cause → ℕ → ℕ → Type 0
+RefusedFor answer cause number line = (answer ≡ Err cause) × (refusal_of cause ≡ record { number = number; line = line })
 
 -- ---- the part that is handed back
 -- cycle n of a trace, from 0, is this line, without its LF, and it stands behind the lines of n cycles
@@ -75,24 +74,24 @@ Accepts flywheel handle k = (get_or flywheel.verdicts k 0 ≡ 0) × (get_or hand
 pub data BrokenFirst (width : ℕ) (flywheel handle : Measurement) (OfFlywheel OfHandle : ℕ → List ℕ → Type 0) : Type 0 where
   -- the flywheel's cycle n was rejected, and none before it in either
   flywheel_broke : (n at : ℕ) (line : List ℕ) → OfFlywheel at line → LineAt width n flywheel.trace at line
-      → check_of width flywheel handle ≡ Fine
+      → check_of width flywheel handle ≡ Ok tt
       → get_or flywheel.verdicts n 0 ≡ 1 → ((k : ℕ) → k < n → Accepts flywheel handle k)
       → BrokenFirst width flywheel handle OfFlywheel OfHandle
   -- the handle's cycle n was rejected, the flywheel's was not, and none before it in either
   handle_broke : (n at : ℕ) (line : List ℕ) → OfHandle at line → LineAt width n handle.trace at line
-      → check_of width flywheel handle ≡ Fine
+      → check_of width flywheel handle ≡ Ok tt
       → get_or handle.verdicts n 0 ≡ 1 → get_or flywheel.verdicts n 0 ≡ 0 → ((k : ℕ) → k < n → Accepts flywheel handle k)
       → BrokenFirst width flywheel handle OfFlywheel OfHandle
   -- no cycle was rejected: the empty beginning of the flywheel trace
-  neither_broke : OfFlywheel 0 [] → check_of width flywheel handle ≡ Fine → ((k : ℕ) → Accepts flywheel handle k)
+  neither_broke : OfFlywheel 0 [] → check_of width flywheel handle ≡ Ok tt → ((k : ℕ) → Accepts flywheel handle k)
       → BrokenFirst width flywheel handle OfFlywheel OfHandle
   -- the check refuses: the same
-  refused : (cause : Cause) → OfFlywheel 0 [] → check_of width flywheel handle ≡ Refused cause
+  refused : (cause : Cause) → OfFlywheel 0 [] → check_of width flywheel handle ≡ Err cause
       → BrokenFirst width flywheel handle OfFlywheel OfHandle
 
 -- find's answer tells place and length
-abbrev pub FoundIn : Found → Bool → ℕ → List ℕ → Type 0
-FoundIn found handle at line = found ≡ record { handle = handle; at = at; length = length line }
+abbrev pub FoundIn : Found → Side → ℕ → List ℕ → Type 0
+FoundIn found side at line = found ≡ record { side = side; at = at; length = length line }
 
 -- first_broken's answer is these bytes, and stands in the trace's own memory: a slice stands in a block, at an offset
 pub record StandsIn (answer : ℕ × ℕ) (bytes : List ℕ) (trace : ℕ × ℕ) (at : ℕ) (line : List ℕ) : Type 0 where

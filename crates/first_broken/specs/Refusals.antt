@@ -1,13 +1,11 @@
 -- What the calls are given, and when they refuse it (document 02, No. 12). A session is measured twice, at the flywheel
 -- and at the handle. The first test that fails decides. Assumes nothing.
-use Rattle.std.specs.Prelude.{Bool, cond, not, ◌&&◌, List, ℕ, eqb, leb, length}
+use Rattle.std.specs.Prelude.{Result, Ok, Err, Bool, cond, not, ◌&&◌, List, ℕ, eqb, leb, length}
 use Rattle.text.specs.declared.Refusal.{Refusal}
 use Rattle.trace.specs.Traces.{fault_of, line_count}
 use Rattle.trace.specs.Verdicts.{all_bits}
 use Rattle.first_broken.specs.declared.refusal.Cause.{Cause}
 use Rattle.first_broken.specs.declared.refusal.Cause.TheVariants.{TraceTooLong, WrongWidth, FlywheelLine, HandleLine, WrongVerdicts}
-use Rattle.first_broken.specs.declared.refusal.Checked.{Checked}
-use Rattle.first_broken.specs.declared.refusal.Checked.TheVariants.{Fine, Refused}
 
 -- one of the two: its trace, and the verdict bytes of that trace
 pub record Measurement : Type 0 where
@@ -40,13 +38,13 @@ unfoldable pub is_judged : ℕ → Measurement → Bool
 is_judged width m = are_verdicts m.verdicts (line_count width m.trace)
 
 -- ---- the tests in order: 26 "after 1 and before 15", 15 "flywheel first", 25 "after 15"
-unfoldable pub check_of : ℕ → Measurement → Measurement → Checked
+unfoldable pub check_of : ℕ → Measurement → Measurement → Result Unit Cause
 check_of width flywheel handle =
     let first = fault_of width flywheel.trace in
     let second = fault_of width handle.trace in
-    cond (not (is_short flywheel.trace && is_short handle.trace)) (Refused TraceTooLong)
-    (cond (not (is_width width)) (Refused WrongWidth)
-    (cond (not (eqb first 0)) (Refused (FlywheelLine first))
-    (cond (not (eqb second 0)) (Refused (HandleLine second))
-    (cond (not (is_judged width flywheel && is_judged width handle)) (Refused WrongVerdicts)
-    Fine))))
+    cond (not (is_short flywheel.trace && is_short handle.trace)) (Err TraceTooLong)
+    (cond (not (is_width width)) (Err WrongWidth)
+    (cond (not (eqb first 0)) (Err (FlywheelLine first))
+    (cond (not (eqb second 0)) (Err (HandleLine second))
+    (cond (not (is_judged width flywheel && is_judged width handle)) (Err WrongVerdicts)
+    (Ok tt)))))

@@ -11,8 +11,8 @@ ghost use Rattle.first_broken.specs.Claims.{BrokenFirst, StandsIn};
 mod places;
 mod refusal;
 
-pub use places::{Found, find};
-pub use refusal::{Cause, Checked, check};
+pub use places::{Found, Side, find};
+pub use refusal::{Cause, check};
 
 // The line that was rejected first, of the flywheel trace or the handle trace; the empty beginning of the flywheel trace
 // where nothing was rejected or the check refuses.
@@ -36,8 +36,8 @@ pub fn first_broken<'a>(
     let found = find(width, flywheel, handle, flywheel_verdicts, handle_verdicts);
     let at = found.at;
     let end = at + found.length;
-    if found.handle {
-        return &handle[at..end];
+    match found.side {
+        Side::Flywheel => &flywheel[at..end],
+        Side::Handle => &handle[at..end],
     }
-    &flywheel[at..end]
 }

@@ -1,22 +1,22 @@
 // Which trace was rejected first, and where the line of that cycle stands in it.
-ghost use Rattle.std.specs.Prelude.{◌≡◌, true, false, ◌≤◌, length};
+ghost use Rattle.std.specs.Prelude.{◌≡◌, ◌≤◌, length};
 ghost use Rattle.first_broken.specs.Places.{is_rejected, broken_of, beginning, cycle_line, line_of, found_of};
 ghost use Rattle.first_broken.specs.Claims.{BrokenFirst, FoundIn};
 
-use crate::refusal::{Checked, check};
+use crate::refusal::check;
+use text::byte_at;
 
-// The earliest rejected cycle, from 0, and whose it is.
+// Where a session is measured.
 #[derive(Clone, Copy)]
-pub(crate) enum Broken {
-    Nowhere,
-    Flywheel(usize),
-    Handle(usize),
+pub enum Side {
+    Flywheel,
+    Handle,
 }
 
-// A part of the handle trace, or else of the flywheel trace.
+// A part of the trace that was measured at this side.
 #[derive(Clone, Copy)]
 pub struct Found {
-    pub handle: bool,
+    pub side: Side,
     pub at: usize,
     pub length: usize,
 }
@@ -25,31 +25,22 @@ pub struct Found {
 fn is_rejected(verdicts: &[u8], n: usize) -> bool
     ensures { result ≡ is_rejected verdicts.now n }
 {
-    if n >= verdicts.len() {
-        return false;
-    }
-    verdicts[n] == 1
+    byte_at(verdicts, n) == 1
 }
 
-// The earliest rejected cycle of two lists of verdict bytes; at a tie, the flywheel's.
-fn earliest(flywheel: &[u8], handle: &[u8]) -> Broken
+// The earliest rejected cycle of two lists of verdict bytes, from 0, and whose it is; at a tie, the flywheel's.
+fn earliest(flywheel: &[u8], handle: &[u8]) -> Option<(Side, usize)>
     ensures { result ≡ broken_of flywheel.now handle.now }
 {
-    let mut n: usize = 0;
-    let mut cycles = flywheel.len();
-    if cycles < handle.len() {
-        cycles = handle.len();
-    }
-    while n < cycles {
+    for n in 0..flywheel.len().max(handle.len()) {
         if is_rejected(flywheel, n) {
-            return Broken::Flywheel(n);
+            return Some((Side::Flywheel, n));
         }
         if is_rejected(handle, n) {
-            return Broken::Handle(n);
+            return Some((Side::Handle, n));
         }
-        n += 1;
     }
-    Broken::Nowhere
+    None
 }
 
 // The empty beginning of the flywheel trace.
@@ -57,20 +48,20 @@ fn empty_beginning() -> Found
     ensures { result ≡ beginning }
 {
     Found {
-        handle: false,
+        side: Side::Flywheel,
         at: 0,
         length: 0,
     }
 }
 
 // The line of cycle n, without its LF.
-fn cycle_line(handle: bool, n: usize, width: usize) -> Found
+fn cycle_line(side: Side, n: usize, width: usize) -> Found
     requires { (n ≤ 1048576) × (width ≤ 64) }
-    ensures { result ≡ cycle_line handle n width }
+    ensures { result ≡ cycle_line side n width }
 {
     let stride = width + 1;
     Found {
-        handle,
+        side,
         at: n * stride,
         length: width,
     }
@@ -81,11 +72,9 @@ fn line_of(width: usize, flywheel: &[u8], handle: &[u8]) -> Found
     requires { (width ≤ 64) × (length flywheel.now ≤ 1048576) × (length handle.now ≤ 1048576) }
     ensures { result ≡ line_of width (broken_of flywheel.now handle.now) }
 {
-    let broken = earliest(flywheel, handle);
-    match broken {
-        Broken::Nowhere => empty_beginning(),
-        Broken::Flywheel(n) => cycle_line(false, n, width),
-        Broken::Handle(n) => cycle_line(true, n, width),
+    match earliest(flywheel, handle) {
+        None => empty_beginning(),
+        Some((side, n)) => cycle_line(side, n, width),
     }
 }
 
@@ -104,11 +93,11 @@ pub fn find(
     ensures first { BrokenFirst width
         (record { trace = flywheel.now; verdicts = flywheel_verdicts.now })
         (record { trace = handle.now; verdicts = handle_verdicts.now })
-        (FoundIn result false) (FoundIn result true) }
+        (FoundIn result Side.Flywheel) (FoundIn result Side.Handle) }
 {
     let checked = check(width, flywheel, handle, flywheel_verdicts, handle_verdicts);
     match checked {
-        Checked::Fine => line_of(width, flywheel_verdicts, handle_verdicts),
-        Checked::Refused(_) => empty_beginning(),
+        Ok(()) => line_of(width, flywheel_verdicts, handle_verdicts),
+        Err(_) => empty_beginning(),
     }
 }

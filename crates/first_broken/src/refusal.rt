@@ -1,8 +1,7 @@
 // Why a session is refused, and the tests in order.
-ghost use Rattle.std.specs.Prelude.{◌≡◌};
+ghost use Rattle.std.specs.Prelude.{◌≡◌, Ok};
 ghost use Rattle.first_broken.specs.Refusals.{refusal_of, are_verdicts, check_of};
 ghost use Rattle.first_broken.specs.Claims.{CheckMeans, RefusedFor};
-ghost use Rattle.first_broken.specs.declared.refusal.Checked.TheVariants.{Fine};
 
 use text::Refusal;
 use trace::fault;
@@ -25,12 +24,6 @@ pub enum Cause {
     HandleLine(u32),
     // A list of verdict bytes that is not one byte, 0 or 1, for each line of its trace.
     WrongVerdicts,
-}
-
-#[derive(Clone, Copy)]
-pub enum Checked {
-    Fine,
-    Refused(Cause),
 }
 
 impl Cause {
@@ -58,17 +51,7 @@ impl Cause {
 fn are_verdicts(bytes: &[u8], cycles: usize) -> bool
     ensures { result ≡ are_verdicts bytes.now cycles }
 {
-    if bytes.len() != cycles {
-        return false;
-    }
-    let mut k: usize = 0;
-    while k < bytes.len() {
-        if bytes[k] > 1 {
-            return false;
-        }
-        k += 1;
-    }
-    true
+    bytes.len() == cycles && bytes.iter().all(|&b| b <= 1)
 }
 
 // Tests a session: traces of lines of a width, and the verdict bytes of each.
@@ -78,43 +61,43 @@ pub fn check(
     handle: &[u8],
     flywheel_verdicts: &[u8],
     handle_verdicts: &[u8],
-) -> Checked
+) -> Result<(), Cause>
     ensures value { result ≡ check_of width
         (record { trace = flywheel.now; verdicts = flywheel_verdicts.now })
         (record { trace = handle.now; verdicts = handle_verdicts.now }) }
     ensures checks { CheckMeans width
         (record { trace = flywheel.now; verdicts = flywheel_verdicts.now })
         (record { trace = handle.now; verdicts = handle_verdicts.now })
-        (RefusedFor result) (result ≡ Fine) }
+        (RefusedFor result) (result ≡ Ok tt) }
 {
     if flywheel.len() > MAX_TRACE {
-        return Checked::Refused(Cause::TraceTooLong);
+        return Err(Cause::TraceTooLong);
     }
     if handle.len() > MAX_TRACE {
-        return Checked::Refused(Cause::TraceTooLong);
+        return Err(Cause::TraceTooLong);
     }
     if width == 0 {
-        return Checked::Refused(Cause::WrongWidth);
+        return Err(Cause::WrongWidth);
     }
     if width > MAX_WIDTH {
-        return Checked::Refused(Cause::WrongWidth);
+        return Err(Cause::WrongWidth);
     }
     let first = fault(flywheel, width);
     if first != 0 {
         let line = first as u32;
-        return Checked::Refused(Cause::FlywheelLine(line));
+        return Err(Cause::FlywheelLine(line));
     }
     let second = fault(handle, width);
     if second != 0 {
         let line = second as u32;
-        return Checked::Refused(Cause::HandleLine(line));
+        return Err(Cause::HandleLine(line));
     }
     let stride = width + 1;
     if !are_verdicts(flywheel_verdicts, flywheel.len() / stride) {
-        return Checked::Refused(Cause::WrongVerdicts);
+        return Err(Cause::WrongVerdicts);
     }
     if !are_verdicts(handle_verdicts, handle.len() / stride) {
-        return Checked::Refused(Cause::WrongVerdicts);
+        return Err(Cause::WrongVerdicts);
     }
-    Checked::Fine
+    Ok(())
 }

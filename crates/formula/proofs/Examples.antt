@@ -2,6 +2,8 @@
 use mathlib.Core.Path.{◌≡◌, refl}
 use mathlib.Core.Bool.{true, false}
 use mathlib.Core.List.{List, [], ◌∷◌, ◌++◌}
+use Rattle.std.specs.Prelude.{Option, Some, None}
+use Rattle.formula.specs.declared.Formula.{Formula}
 use Prim.Native.Nat.{ℕ, ◌+◌, ◌*◌}
 use lib.ListN.{replicate}
 use Rattle.text.specs.Quoted.{byte, bytes}
@@ -10,6 +12,14 @@ use Rattle.formula.specs.declared.Class.TheVariants.{Other, OpeningSquare, Closi
 use Rattle.formula.specs.Classes.{class_of, strength_of, is_letter, is_word_class, start_of, run, name_bytes, is_name}
 use Rattle.formula.specs.Grammar.{name, bit_of, alike, bit, not, group, join, and_then, is_index, index_of, right_of, name_of, closed, expression_of, none, tree, whole, tree_of, depth_of}
 use Rattle.formula.specs.Reading.{name_word, bit_word, alike_word, byte_word, postfix, padded, answer_of, formula_of}
+
+depth : Option Formula → ℕ
+depth None = 0
+depth (Some f) = f.depth
+
+words_of : Option Formula → List ℕ
+words_of None = []
+words_of (Some f) = f.words
 
 -- n bytes `b`
 abbrev of : ℕ → ℕ → List ℕ
@@ -87,16 +97,16 @@ record Examples : Type 0 where
   is_name_15 : is_name (of 15 (byte "a")) ≡ true
   is_name_16 : is_name (of 16 (byte "a")) ≡ false
   -- 16 and 17 `!` before p
-  depth_16 : (formula_of (of 16 (byte "!") ++ bytes "p")).depth ≡ 16
-  depth_17 : (formula_of (of 17 (byte "!") ++ bytes "p")).depth ≡ 17
-  depth_5 : (formula_of (bytes "!(!((p)))")).depth ≡ 5
+  depth_16 : depth (formula_of (of 16 (byte "!") ++ bytes "p")) ≡ 16
+  depth_17 : depth (formula_of (of 17 (byte "!") ++ bytes "p")) ≡ 17
+  depth_5 : depth (formula_of (bytes "!(!((p)))")) ≡ 5
   -- an index and `==` add none
-  depth_bit : (formula_of (bytes "!a[0]")).depth ≡ 1
-  depth_two : (formula_of (bytes "!a==b")).depth ≡ 1
-  words : (formula_of (bytes "a|!b")).words ≡ (name_word 0 1 ∷ name_word 3 1 ∷ byte_word (byte "!") ∷ byte_word (byte "|") ∷ []) ++ of 251 0
+  depth_bit : depth (formula_of (bytes "!a[0]")) ≡ 1
+  depth_two : depth (formula_of (bytes "!a==b")) ≡ 1
+  words : words_of (formula_of (bytes "a|!b")) ≡ (name_word 0 1 ∷ name_word 3 1 ∷ byte_word (byte "!") ∷ byte_word (byte "|") ∷ []) ++ of 251 0
 
 examples : Examples
-unfolding formula_of answer_of padded postfix bit_word alike_word name_word tree_of whole expression_of and_then is_digit leading_digits value_from is_index index_of right_of name_of closed class_of strength_of is_letter is_word_class start_of run name_bytes is_name depth_of
+unfolding depth words_of formula_of answer_of padded postfix bit_word alike_word name_word tree_of whole expression_of and_then is_digit leading_digits value_from is_index index_of right_of name_of closed class_of strength_of is_letter is_word_class start_of run name_bytes is_name depth_of
 examples =
     record {
       xor-and = refl;

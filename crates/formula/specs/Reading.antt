@@ -1,6 +1,6 @@
 -- What reading a field answers: whether it is a formula, its depth, and its operands and operators in
 -- postfix order, from which names are looked up and gates are made. Assumes nothing.
-use Rattle.std.specs.Prelude.{ℕ, ◌+◌, ◌*◌, ◌-◌, min, true, false, List, [], ◌∷◌, ◌++◌, length, replicate}
+use Rattle.std.specs.Prelude.{ℕ, ◌+◌, ◌*◌, ◌-◌, min, Option, Some, None, List, [], ◌∷◌, ◌++◌, length, replicate}
 use Rattle.text.specs.Quoted.{byte}
 use Rattle.formula.specs.Grammar.{Tree, name, bit_of, alike, bit, not, group, join, Parsed, none, tree, tree_of, depth_of}
 use Rattle.formula.specs.declared.Formula.{Formula}
@@ -36,9 +36,9 @@ postfix (join b e e2) = (postfix e ++ postfix e2) ++ (byte_word b ∷ [])
 unfoldable pub padded : List ℕ → List ℕ
 padded ws = ws ++ replicate (255 - length ws) 0
 
-unfoldable pub answer_of : Parsed → Formula
-answer_of none = record { formed = false; depth = 0; count = 0; words = padded [] }
-answer_of (tree e) = record { formed = true; depth = depth_of e; count = length (postfix e); words = padded (postfix e) }
+unfoldable pub answer_of : Parsed → Option Formula
+answer_of none = None
+answer_of (tree e) = Some (record { depth = depth_of e; count = length (postfix e); words = padded (postfix e) })
 
-unfoldable pub formula_of : List ℕ → Formula
+unfoldable pub formula_of : List ℕ → Option Formula
 formula_of s = answer_of (tree_of s)

@@ -6,8 +6,7 @@
 #![tactic(auto)]
 
 ghost use Rattle.std.specs.Prelude.{◌≡◌};
-ghost use Rattle.formula.specs.Grammar.{none};
-ghost use Rattle.formula.specs.Reading.{answer_of, formula_of};
+ghost use Rattle.formula.specs.Reading.{formula_of};
 ghost use Rattle.formula.specs.Claims.{GrammarMeans};
 
 mod classes;
@@ -15,7 +14,6 @@ mod names;
 mod readers;
 
 pub use classes::{class_of, is_name, name_end, strength};
-use readers::Read;
 
 // The class of a byte.
 #[derive(Clone, Copy)]
@@ -46,48 +44,30 @@ pub enum Start {
 // A formula has at most so many bytes, and so at most so many words.
 const LONGEST_FORMULA: usize = 255;
 
-// What a field is: whether it is a formula, and then how deep its `(` and `!` nest, how many words it
-// has, and the words; all others are 0.
+// A formula: how deep its `(` and `!` nest, how many words it has, and the words; all others are 0.
 #[derive(Drop)]
 pub struct Formula {
-    pub formed: bool,
     pub depth: usize,
     pub count: usize,
     pub words: [u32; LONGEST_FORMULA],
 }
 
-// A field that is no formula.
-fn unformed() -> Formula
-    ensures { result ≡ answer_of none }
-{
-    Formula {
-        formed: false,
-        depth: 0,
-        count: 0,
-        words: [0; LONGEST_FORMULA],
-    }
-}
-
 // Reads a field as a formula, at any depth.
-pub fn read(s: &[u8]) -> Formula
+pub fn read(s: &[u8]) -> Option<Formula>
     ensures value { result ≡ formula_of s.now }
     ensures grammar { GrammarMeans s.now }
 {
     if LONGEST_FORMULA < s.len() {
-        return unformed();
+        return None;
     }
     let mut words = [0; LONGEST_FORMULA];
-    let r = readers::expression(s, 0, &mut words, 0, 0);
-    let Read::Done { next, count, depth } = r else {
-        return unformed();
-    };
-    if next < s.len() {
-        return unformed();
+    let r = readers::expression(s, 0, &mut words, 0, 0)?;
+    if r.next < s.len() {
+        return None;
     }
-    Formula {
-        formed: true,
-        depth,
-        count,
+    Some(Formula {
+        depth: r.depth,
+        count: r.count,
         words,
-    }
+    })
 }

@@ -11,11 +11,11 @@ ghost use Rattle.formula.specs.Private.Readers.{word_read, index_at};
 use crate::classes::{LONGEST_NAME, is_letter, name_end};
 use text::byte_at;
 
-// What a name and what belongs to it are: of no such form; or a word, and the place after it.
+// A name and what belongs to it: its word, and the place after it.
 #[derive(Clone, Copy)]
-pub enum Word {
-    Wrong,
-    Formed { next: usize, word: u32 },
+pub(crate) struct Word {
+    pub next: usize,
+    pub word: u32,
 }
 
 // The word of a name is so many times its place, and its length.
@@ -32,10 +32,9 @@ const LEFT: u32 = 4096;
 // No name has more bits, so all from here on count alike.
 const WIDEST: u32 = 16;
 
-// The digits at a place: whether they are an index, its number, cut at 16, and the place after them.
+// An index: its number, cut at 16, and the place after its digits.
 #[derive(Clone, Copy)]
 struct Index {
-    formed: bool,
     value: u32,
     next: usize,
 }
@@ -66,45 +65,39 @@ fn is_index(first: u8, count: usize) -> bool
 }
 
 // The index whose digits start at a place.
-fn read_index(s: &[u8], at: usize) -> Index
+fn read_index(s: &[u8], at: usize) -> Option<Index>
     ensures { result ≡ index_at s.now at }
 {
     let mut value = 0;
-    let mut p = at;
-    loop {
-        let b = byte_at(s, p);
-        if !is_digit(b) {
-            let formed = is_index(byte_at(s, at), p - at);
-            return Index {
-                formed,
-                value,
-                next: p,
-            };
-        }
-        value = with_digit(value, b);
-        p += 1;
+    let mut end = at;
+    while is_digit(byte_at(s, end)) {
+        value = with_digit(value, byte_at(s, end));
+        end += 1;
+    }
+    if is_index(byte_at(s, at), end - at) {
+        Some(Index { value, next: end })
+    } else {
+        None
     }
 }
 
 // One bit of the name of a word: the index at a place, and `]`.
-fn bit_word(s: &[u8], name: u32, at: usize) -> Word
+fn bit_word(s: &[u8], name: u32, at: usize) -> Option<Word>
     requires { name < 4096 }
     ensures { (p n : ℕ) → name ≡ name_word p n → result ≡ word_read (index_of s.now p n at (leading_digits (drop at s.now))) }
 {
-    let i = read_index(s, at);
-    if i.formed {
-        if byte_at(s, i.next) == b']' {
-            return Word::Formed {
-                next: i.next + 1,
-                word: BIT * (i.value + 1) + name,
-            };
-        }
+    let i = read_index(s, at)?;
+    if byte_at(s, i.next) == b']' {
+        return Some(Word {
+            next: i.next + 1,
+            word: BIT * (i.value + 1) + name,
+        });
     }
-    Word::Wrong
+    None
 }
 
 // The name of a word compared with the one at a place.
-fn alike_word(s: &[u8], name: u32, at: usize) -> Word
+fn alike_word(s: &[u8], name: u32, at: usize) -> Option<Word>
     requires { (at ≤ length s.now) × (length s.now ≤ 255) × (name < 4096) }
     ensures { (p n : ℕ) → name ≡ name_word p n → result ≡ word_read (right_of s.now p n at (run (drop at s.now))) }
 {
@@ -112,24 +105,24 @@ fn alike_word(s: &[u8], name: u32, at: usize) -> Word
     let len = end - at;
     if is_letter(byte_at(s, at)) {
         if len <= LONGEST_NAME {
-            return Word::Formed {
+            return Some(Word {
                 next: end,
                 word: ALIKE + LEFT * name + (at * PLACE + len) as u32,
-            };
+            });
         }
     }
-    Word::Wrong
+    None
 }
 
 // The name that starts at a place, with what belongs to it.
-pub(crate) fn name_word(s: &[u8], at: usize) -> Word
+pub(crate) fn name_word(s: &[u8], at: usize) -> Option<Word>
     requires { (length s.now ≤ 255) × (start_of (get_or s.now at 0) ≡ Name) }
     ensures { result ≡ word_read (name_of s.now at (run (drop at s.now))) }
 {
     let end = name_end(s, at);
     let len = end - at;
     if LONGEST_NAME < len {
-        return Word::Wrong;
+        return None;
     }
     let word = (at * PLACE + len) as u32;
     let b = byte_at(s, end);
@@ -141,5 +134,5 @@ pub(crate) fn name_word(s: &[u8], at: usize) -> Word
             return alike_word(s, word, end + 2);
         }
     }
-    Word::Formed { next: end, word }
+    Some(Word { next: end, word })
 }

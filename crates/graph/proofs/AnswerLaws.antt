@@ -1,4 +1,5 @@
 -- What the reader answers at its end, and what its answer tells. Assumes nothing.
+use Rattle.std.specs.Prelude.{Result, Ok, Err}
 use Prim.Native.Nat.{ℕ, ◌+◌}
 use mathlib.Core.Path.{◌≡◌, refl, ap}
 use native.Mathlib.Omega.{arith}
@@ -10,8 +11,6 @@ use Rattle.graph.specs.Held.{held_as, held_of, answer_of, read_of}
 use Rattle.graph.specs.declared.Cause.{Cause}
 use Rattle.graph.specs.declared.Cause.TheVariants.{NoVertex}
 use Rattle.graph.specs.declared.CheckedGraph.{CheckedGraph}
-use Rattle.graph.specs.declared.ReadOutcome.TheVariants.{Checked, Refused}
-use Rattle.graph.specs.declared.GraphRead.{GraphRead}
 use Rattle.graph.specs.Claims.{Sound}
 use Rattle.graph.specs.Private.Steps.{written_of, chosen_in}
 use Rattle.graph.proofs.ModeLaws.{chosen}
@@ -22,11 +21,11 @@ module _ (text : Bytes) (g : CheckedGraph) (graph : Graph) (h : g ≡ written_of
   unfolding held_as
   counted = ap (λ (x : CheckedGraph). x.vertices) h
 
-  pub finish_none : g.vertices ≡ 0 → answer_of text (refused NoVertex) ≡ answer_of text (finished graph)
-  unfolding finished
+  pub finish_none : g.vertices ≡ 0 → Err NoVertex ≡ answer_of text (finished graph)
+  unfolding finished answer_of
   finish_none z = rw (← counted, eq-eqb g.vertices 0 z)
 
-  pub finish_some : (g.vertices ≡ 0 → ⊥) → {r : CheckedGraph} → r ≡ chosen_in g → ◌≡◌ {A = GraphRead} (record { outcome = Checked; graph = r }) (answer_of text (finished graph))
+  pub finish_some : (g.vertices ≡ 0 → ⊥) → {r : CheckedGraph} → r ≡ chosen_in g → Ok r ≡ answer_of text (finished graph)
   unfolding finished answer_of
   finish_some z e = rw (← counted, ne_eqb g.vertices 0 z, e, chosen text g graph h)
 
@@ -43,10 +42,10 @@ pub record CheckedText (text : Bytes) (g : CheckedGraph) : Type 0 where
   pub edges_are : g.edges ≡ length graph.edges
   pub graph_sound : Sound text graph
 
-checked_of_lem : (text : Bytes) (o : Outcome) → graph_of text ≡ o → {r : GraphRead} → r ≡ answer_of text o → r.outcome ≡ Checked → CheckedText text r.graph
+checked_of_lem : (text : Bytes) (o : Outcome) → graph_of text ≡ o → {r : Result CheckedGraph Cause} {g : CheckedGraph} → r ≡ answer_of text o → r ≡ Ok g → CheckedText text g
 unfolding answer_of held_of held_as
-checked_of_lem text (accepted graph) o {r} e h =
-    let a : r.graph ≡ held_of text graph = ap (λ (x : GraphRead). x.graph) e in
+checked_of_lem text (accepted graph) o {r} {g} e h =
+    let a : g ≡ held_of text graph = cc in
     record {
       graph = graph;
       accepts = o;
@@ -58,23 +57,21 @@ checked_of_lem text (accepted graph) o {r} e h =
       edges_are = ap (λ (x : CheckedGraph). x.edges) a;
       graph_sound = sound text o;
     }
-checked_of_lem text (refused cause) o {r} e h =
-    let k : r.outcome ≡ Refused cause = ap (λ (x : GraphRead). x.outcome) e in
+checked_of_lem text (refused cause) o e h =
     let z : ◌≡◌ {A = ℕ} 0 1 = cc in
     absurd (omega arith)
 
-refused_of : (text : Bytes) (o : Outcome) {r : GraphRead} {cause : Cause} → r ≡ answer_of text o → r.outcome ≡ Refused cause → o ≡ refused cause
+refused_of : (text : Bytes) (o : Outcome) {r : Result CheckedGraph Cause} {cause : Cause} → r ≡ answer_of text o → r ≡ Err cause → o ≡ refused cause
 unfolding answer_of
-refused_of text (accepted graph) {r} e h =
-    let k : r.outcome ≡ Checked = ap (λ (x : GraphRead). x.outcome) e in
+refused_of text (accepted graph) e h =
     let z : ◌≡◌ {A = ℕ} 0 1 = cc in
     absurd (omega arith)
-refused_of text (refused cause) {r} e h = let k : r.outcome ≡ Refused cause = ap (λ (x : GraphRead). x.outcome) e in cc
+refused_of text (refused cause) e h = cc
 
-pub checked-text : (text : Bytes) {r : GraphRead} → r ≡ read_of text → r.outcome ≡ Checked → CheckedText text r.graph
+pub checked-text : (text : Bytes) {r : Result CheckedGraph Cause} {g : CheckedGraph} → r ≡ read_of text → r ≡ Ok g → CheckedText text g
 unfolding read_of
 checked-text text e h = checked_of_lem text (graph_of text) refl e h
 
-pub refused-text : (text : Bytes) {r : GraphRead} {cause : Cause} → r ≡ read_of text → r.outcome ≡ Refused cause → graph_of text ≡ refused cause
+pub refused-text : (text : Bytes) {r : Result CheckedGraph Cause} {cause : Cause} → r ≡ read_of text → r ≡ Err cause → graph_of text ≡ refused cause
 unfolding read_of
 refused-text text e h = refused_of text (graph_of text) e h

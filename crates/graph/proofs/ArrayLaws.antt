@@ -1,4 +1,5 @@
 -- Laws of the arrays that hold the graph read so far, one record after another. Assumes nothing.
+use Rattle.std.specs.Prelude.{ltb, is_some, Option, Some, None, Result, Ok, Err}
 use Prim.Native.Nat.{ℕ, zero, suc, ◌+◌, ◌-◌, ◌≤◌, ◌<◌}
 use mathlib.Core.Path.{◌≡◌, refl, sym, ap, subst, ◌∙◌}
 use mathlib.Core.Bool.{Bool, true, false}
@@ -12,19 +13,15 @@ use lib.ListN.{length, take, set, replicate, length-append, length-replicate}
 use lib.Seq.{take_at, set-append_seam}
 use Rattle.assertion.specs.Graph.{Bytes, Name, Edge, Graph, bits_of, signal_bits, constant_bits}
 use Rattle.assertion.specs.declared.Mode.{Mode}
-use Rattle.graph.specs.Pieces.{Declared, look_up, look_up_name}
+use Rattle.graph.specs.Pieces.{place_of, Declared, look_up, look_up_name}
 use Rattle.graph.specs.Reading.{mode_lines, add_mode, names_of, judged_formula, lower, sized_name, add_signal, add_constant, add_vertex, edge_of, unless_faulty, judge_edge, add_edge}
 use Rattle.graph.specs.Held.{line_of, field_at, field_length, symbol_word, symbols_of, name_places, arc_of, arcs_of, no_arc, filled, held_as}
-use Rattle.graph.specs.Private.Steps.{points, held, EachNarrow, named_of, records_of, written_of, Holds, ArcAt, faulty_of, added_of, with_mode, with_signal, with_constant, with_vertex, with_edge}
+use Rattle.graph.specs.Private.Steps.{points, held, EachNarrow, named_of, records_of, written_of, Holds, ArcAt, added_of, with_mode, with_signal, with_constant, with_vertex, with_edge}
 use Rattle.graph.specs.declared.Fault.{Fault}
 use Rattle.graph.specs.declared.Fault.TheVariants.{WrongOrder, TooMany, NameRepeated, UnknownVertex}
-use Rattle.graph.specs.declared.Judged.{Judged}
-use Rattle.graph.specs.declared.Judged.TheVariants.{Fine, Faulty}
-use Rattle.graph.specs.declared.Found.{Found}
 use Rattle.graph.specs.declared.FoundName.{FoundName}
 use Rattle.graph.specs.declared.Arc.{Arc}
 use Rattle.graph.specs.declared.CheckedGraph.{CheckedGraph}
-use Rattle.graph.specs.declared.Added.{Added}
 use Rattle.graph.proofs.BitLaws.{bits-append, bits-more, bits_none, bits-some, each_right, placed_narrow}
 
 -- ---- arrays filled from the front
@@ -120,6 +117,15 @@ graph_is : {m m2 : Mode} {k k2 a a2 b b2 c c2 d d2 : ℕ} {n n2 : List ℕ} {p p
 graph_is m k q r s t u v w = rw (m, k, q, r, s, t, u, v, w)
 
 -- ---- what the arrays hold
+-- a vertex that is found has the place that is found
+found_place : (n : Bytes) (ms : List Bytes) {p : ℕ} → look_up n ms ≡ Some p → place_of n ms ≡ p
+unfolding look_up
+found_place n ms {p} e = by (ltb (place_of n ms) (length ms)) e
+  where
+    by : (t : Bool) → elim t [ true ↦ Some (place_of n ms) | false ↦ None ] ≡ Some p → place_of n ms ≡ p
+    by true k = cc
+    by false k = let z : ◌≡◌ {A = ℕ} 0 1 = cc in absurd (omega arith)
+
 module _ (text : Bytes) (g : CheckedGraph) (graph : Graph) (h : Holds text g graph) where
   abbrev first : ℕ
   first = mode_lines graph.mode
@@ -173,10 +179,10 @@ module _ (text : Bytes) (g : CheckedGraph) (graph : Graph) (h : Holds text g gra
   points-are = rw (point_places, vertices-are, places-first text 64 (first + named_of graph) (length graph.vertices)) h.vertices
 
   -- a name looked up, and a vertex
-  named-found : (n : Bytes) {x : FoundName} {own : Bytes} → own ≡ n → x ≡ look_up_name own (held text (take g.named g.names)) → look_up_name n (names_of graph) ≡ x
+  named-found : (n : Bytes) {x : Option FoundName} {own : Bytes} → own ≡ n → x ≡ look_up_name own (held text (take g.named g.names)) → look_up_name n (names_of graph) ≡ x
   named-found n o e = rw (← names-are, ← o) (sym e)
 
-  point_found : (n : Bytes) {x : Found} {own : Bytes} → own ≡ n → x ≡ look_up own (points text (take g.vertices g.points)) → look_up n graph.vertices ≡ x
+  point_found : (n : Bytes) {x : Option ℕ} {own : Bytes} → own ≡ n → x ≡ look_up own (points text (take g.vertices g.points)) → look_up n graph.vertices ≡ x
   point_found n o e = rw (← points-are, ← o) (sym e)
 
   -- there is a constant just where there is a bit of one
@@ -197,7 +203,7 @@ module _ (text : Bytes) (g : CheckedGraph) (graph : Graph) (h : Holds text g gra
   lines_are e = omega (arith, e, ap mode_lines mode-is, named-is, vertices-are, edges_are)
 
   module _ (m : Mode) {n : ℕ} (e : n ≡ mode_lines g.mode) where
-    pub mode_late : 0 < n + g.named + g.vertices + g.edges → faulty_of g WrongOrder ≡ added_of text g (add_mode graph m)
+    pub mode_late : 0 < n + g.named + g.vertices + g.edges → Err WrongOrder ≡ added_of text (add_mode graph m)
     unfolding added_of add_mode
     mode_late l = rw (lines_are e, lt-ltb 0 (n + g.named + g.vertices + g.edges) l)
 
@@ -209,7 +215,7 @@ module _ (text : Bytes) (g : CheckedGraph) (graph : Graph) (h : Holds text g gra
         let e0 : graph.edges ≡ [] = none_list graph.edges (omega (arith, edges_are)) in
         graph_is refl named-is signals-are constants-are vertices-are edges_are (name_places_lem ∙ rw s0) (point_places ∙ rw v0) (arc_places ∙ rw e0)
 
-    pub mode_new : n + g.named + g.vertices + g.edges ≤ 0 → ◌≡◌ {A = Added} (record { judged = Fine; graph = with_mode g m }) (added_of text g (add_mode graph m))
+    pub mode_new : n + g.named + g.vertices + g.edges ≤ 0 → Ok (with_mode g m) ≡ added_of text (add_mode graph m)
     unfolding added_of add_mode
     mode_new l = rw (plus_mode_lem l, lines_are e, le-ltb 0 (n + g.named + g.vertices + g.edges) l)
 
@@ -227,17 +233,17 @@ module _ (text : Bytes) (g : CheckedGraph) (graph : Graph) (h : Holds text g gra
       | no c ↦ omega (arith, vertices-are, edges_are)
     ]
 
-    pub signal_late : 0 < g.constants + g.vertices + g.edges → faulty_of g WrongOrder ≡ added_of text g (add_signal graph n w)
+    pub signal_late : 0 < g.constants + g.vertices + g.edges → Err WrongOrder ≡ added_of text (add_signal graph n w)
     unfolding added_of add_signal
     signal_late l = rw (lt-ltb 0 late (late_some l))
 
     module _ (l : g.constants + g.vertices + g.edges ≤ 0) where
-      pub signal_many : 63 < g.signals + w → faulty_of g TooMany ≡ added_of text g (add_signal graph n w)
+      pub signal_many : 63 < g.signals + w → Err TooMany ≡ added_of text (add_signal graph n w)
       unfolding added_of add_signal
       signal_many m = rw (le-ltb 0 late (late_none l), ← signals-are, lt-ltb 63 (g.signals + w) m)
 
-      module _ (m : g.signals + w ≤ 63) {x : FoundName} {own : Bytes} (o : own ≡ n) (e : x ≡ look_up_name own (held text (take g.named g.names))) where
-        pub signal_again : x.known ≡ true → faulty_of g NameRepeated ≡ added_of text g (add_signal graph n w)
+      module _ (m : g.signals + w ≤ 63) {x : Option FoundName} {own : Bytes} (o : own ≡ n) (e : x ≡ look_up_name own (held text (take g.named g.names))) where
+        pub signal_again : is_some x ≡ true → Err NameRepeated ≡ added_of text (add_signal graph n w)
         unfolding added_of add_signal
         signal_again k = rw (le-ltb 0 late (late_none l), ← signals-are, le-ltb 63 (g.signals + w) m, named-found n o e, k)
 
@@ -257,23 +263,23 @@ module _ (text : Bytes) (g : CheckedGraph) (graph : Graph) (h : Holds text g gra
               (point_places ∙ rw v0)
               (arc_places ∙ rw e0)
 
-          pub signal_new : x.known ≡ false → ◌≡◌ {A = Added} (record { judged = Fine; graph = with_signal g p j w }) (added_of text g (add_signal graph n w))
+          pub signal_new : is_some x ≡ false → Ok (with_signal g p j w) ≡ added_of text (add_signal graph n w)
           unfolding added_of add_signal
           signal_new k =
               rw (plus_signal_lem, le-ltb 0 late (late_none l), ← signals-are, le-ltb 63 (g.signals + w) m, named-found n o e, k)
 
     -- ---- constants
-    pub constant_late : 0 < g.vertices + g.edges → faulty_of g WrongOrder ≡ added_of text g (add_constant graph n w)
+    pub constant_late : 0 < g.vertices + g.edges → Err WrongOrder ≡ added_of text (add_constant graph n w)
     unfolding added_of add_constant
     constant_late l = rw (← vertices-are, ← edges_are, lt-ltb 0 (g.vertices + g.edges) l)
 
     module _ (l : g.vertices + g.edges ≤ 0) where
-      pub constant_many : 6 < g.constants + w → faulty_of g TooMany ≡ added_of text g (add_constant graph n w)
+      pub constant_many : 6 < g.constants + w → Err TooMany ≡ added_of text (add_constant graph n w)
       unfolding added_of add_constant
       constant_many m = rw (← vertices-are, ← edges_are, le-ltb 0 (g.vertices + g.edges) l, ← constants-are, lt-ltb 6 (g.constants + w) m)
 
-      module _ (m : g.constants + w ≤ 6) {x : FoundName} {own : Bytes} (o : own ≡ n) (e : x ≡ look_up_name own (held text (take g.named g.names))) where
-        pub constant_again : x.known ≡ true → faulty_of g NameRepeated ≡ added_of text g (add_constant graph n w)
+      module _ (m : g.constants + w ≤ 6) {x : Option FoundName} {own : Bytes} (o : own ≡ n) (e : x ≡ look_up_name own (held text (take g.named g.names))) where
+        pub constant_again : is_some x ≡ true → Err NameRepeated ≡ added_of text (add_constant graph n w)
         unfolding added_of add_constant
         constant_again k = rw (← vertices-are, ← edges_are, le-ltb 0 (g.vertices + g.edges) l, ← constants-are, le-ltb 6 (g.constants + w) m, named-found n o e, k)
 
@@ -292,24 +298,24 @@ module _ (text : Bytes) (g : CheckedGraph) (graph : Graph) (h : Holds text g gra
               (point_places ∙ rw v0)
               (arc_places ∙ rw e0)
 
-          pub constant_new : x.known ≡ false → ◌≡◌ {A = Added} (record { judged = Fine; graph = with_constant g p j w }) (added_of text g (add_constant graph n w))
+          pub constant_new : is_some x ≡ false → Ok (with_constant g p j w) ≡ added_of text (add_constant graph n w)
           unfolding added_of add_constant
           constant_new k =
               rw (plus_constant_lem, ← vertices-are, ← edges_are, le-ltb 0 (g.vertices + g.edges) l, ← constants-are, le-ltb 6 (g.constants + w) m, named-found n o e, k)
 
   -- ---- vertices
   module _ (n : Bytes) where
-    pub vertex_late : 0 < g.edges → faulty_of g WrongOrder ≡ added_of text g (add_vertex graph n)
+    pub vertex_late : 0 < g.edges → Err WrongOrder ≡ added_of text (add_vertex graph n)
     unfolding added_of add_vertex
     vertex_late l = rw (← edges_are, lt-ltb 0 g.edges l)
 
     module _ (l : g.edges ≤ 0) where
-      pub vertex_many : 64 ≤ g.vertices → faulty_of g TooMany ≡ added_of text g (add_vertex graph n)
+      pub vertex_many : 64 ≤ g.vertices → Err TooMany ≡ added_of text (add_vertex graph n)
       unfolding added_of add_vertex
       vertex_many m = rw (← edges_are, le-ltb 0 g.edges l, ← vertices-are, le-leb 64 g.vertices m)
 
-      module _ (m : g.vertices < 64) {x : Found} {own : Bytes} (o : own ≡ n) (e : x ≡ look_up own (points text (take g.vertices g.points))) where
-        pub vertex_again : x.known ≡ true → faulty_of g NameRepeated ≡ added_of text g (add_vertex graph n)
+      module _ (m : g.vertices < 64) {x : Option ℕ} {own : Bytes} (o : own ≡ n) (e : x ≡ look_up own (points text (take g.vertices g.points))) where
+        pub vertex_again : is_some x ≡ true → Err NameRepeated ≡ added_of text (add_vertex graph n)
         unfolding added_of add_vertex
         vertex_again k = rw (← edges_are, le-ltb 0 g.edges l, ← vertices-are, lt-leb 64 g.vertices m, point_found n o e, k)
 
@@ -323,7 +329,7 @@ module _ (text : Bytes) (g : CheckedGraph) (graph : Graph) (h : Holds text g gra
               (rw (point_places, vertices-are, q, r1, one_more_lem graph.vertices n) (places_push text 64 (first + named_of graph) (length graph.vertices) (omega (arith, vertices-are))))
               (arc_places ∙ rw e0)
 
-          pub vertex_new : x.known ≡ false → ◌≡◌ {A = Added} (record { judged = Fine; graph = with_vertex g p }) (added_of text g (add_vertex graph n))
+          pub vertex_new : is_some x ≡ false → Ok (with_vertex g p) ≡ added_of text (add_vertex graph n)
           unfolding added_of add_vertex
           vertex_new k = rw (plus_vertex_lem, ← edges_are, le-ltb 0 g.edges l, ← vertices-are, lt-leb 64 g.vertices m, point_found n o e, k)
 
@@ -331,11 +337,11 @@ module _ (text : Bytes) (g : CheckedGraph) (graph : Graph) (h : Holds text g gra
   abbrev listed : List Declared
   listed = held text (take g.named g.names)
 
-  module _ (from to : ℕ) (marked : Bool) (a c : Bytes) {x : Judged} (j : x ≡ lower (judged_formula listed a) (judged_formula listed c)) where
+  module _ (from to : ℕ) (marked : Bool) (a c : Bytes) {x : Result Unit Fault} (j : x ≡ lower (judged_formula listed a) (judged_formula listed c)) where
     both : lower (judged_formula (names_of graph) a) (judged_formula (names_of graph) c) ≡ x
     both = rw (← names-are) (sym j)
 
-    pub edge-fault : {f : Fault} → x ≡ Faulty f → faulty_of g f ≡ added_of text g (judge_edge graph from to marked a c)
+    pub edge-fault : {f : Fault} → x ≡ Err f → Err f ≡ added_of text (judge_edge graph from to marked a c)
     unfolding added_of judge_edge unless_faulty
     edge-fault k = rw (both, k)
 
@@ -352,7 +358,7 @@ module _ (text : Bytes) (g : CheckedGraph) (graph : Graph) (h : Holds text g gra
       arc_is : e ≡ arc_of text (records_of graph) e.terminal (edge_of graph e.from e.to e.terminal a c)
       arc_is = same_arc e w a c
 
-  pub edge_new : (e : Arc) → ArcAt text (records_of graph) e → g.edges < 128 → (a c : Bytes) {x : Judged} → x ≡ lower (judged_formula listed a) (judged_formula listed c) → x ≡ Fine → ◌≡◌ {A = Added} (record { judged = Fine; graph = with_edge g e }) (added_of text g (judge_edge graph e.from e.to e.terminal a c))
+  pub edge_new : (e : Arc) → ArcAt text (records_of graph) e → g.edges < 128 → (a c : Bytes) {x : Result Unit Fault} → x ≡ lower (judged_formula listed a) (judged_formula listed c) → x ≡ Ok tt → Ok (with_edge g e) ≡ added_of text (judge_edge graph e.from e.to e.terminal a c)
   unfolding added_of judge_edge unless_faulty
   edge_new e w l a c {x} j k = rw (plus_edge_lem, both e.from e.to e.terminal a c j, k)
     where
@@ -360,20 +366,23 @@ module _ (text : Bytes) (g : CheckedGraph) (graph : Graph) (h : Holds text g gra
       plus_edge_lem = plus e w l a c
 
   module _ (from to : Bytes) (marked : Bool) (a c : Bytes) where
-    pub edge_many : 128 ≤ g.edges → faulty_of g TooMany ≡ added_of text g (add_edge graph from to marked a c)
+    pub edge_many : 128 ≤ g.edges → Err TooMany ≡ added_of text (add_edge graph from to marked a c)
     unfolding added_of add_edge
     edge_many l = rw (← edges_are, le-leb 128 g.edges l)
 
-    module _ (few : g.edges < 128) {f : Found} (hf : f ≡ look_up from (points text (take g.vertices g.points))) where
-      pub edge-from : f.known ≡ false → faulty_of g UnknownVertex ≡ added_of text g (add_edge graph from to marked a c)
+    module _ (few : g.edges < 128) {f : Option ℕ} (hf : f ≡ look_up from (points text (take g.vertices g.points))) where
+      pub edge-from : f ≡ None → Err UnknownVertex ≡ added_of text (add_edge graph from to marked a c)
       unfolding added_of add_edge
       edge-from k = rw (← edges_are, lt-leb 128 g.edges few, point_found from refl hf, k)
 
-      module _ (ok : f.known ≡ true) {t : Found} (ht : t ≡ look_up to (points text (take g.vertices g.points))) where
-        pub edge_to : t.known ≡ false → faulty_of g UnknownVertex ≡ added_of text g (add_edge graph from to marked a c)
+      module _ {p : ℕ} (ok : f ≡ Some p) {t : Option ℕ} (ht : t ≡ look_up to (points text (take g.vertices g.points))) where
+        pub edge_to : t ≡ None → Err UnknownVertex ≡ added_of text (add_edge graph from to marked a c)
         unfolding added_of add_edge
         edge_to k = rw (← edges_are, lt-leb 128 g.edges few, point_found from refl hf, ok, point_found to refl ht, k)
 
-        pub edge-known : t.known ≡ true → judge_edge graph f.place t.place marked a c ≡ add_edge graph from to marked a c
+        pub edge-known : {q : ℕ} → t ≡ Some q → judge_edge graph p q marked a c ≡ add_edge graph from to marked a c
         unfolding add_edge
-        edge-known k = rw (← edges_are, lt-leb 128 g.edges few, point_found from refl hf, ok, point_found to refl ht, k)
+        edge-known k =
+            let p = found_place from graph.vertices (point_found from refl hf ∙ ok) in
+            let q = found_place to graph.vertices (point_found to refl ht ∙ k) in
+            rw (← edges_are, lt-leb 128 g.edges few, p, q, point_found from refl hf, ok, point_found to refl ht, k)

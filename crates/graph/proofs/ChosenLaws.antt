@@ -1,4 +1,5 @@
 -- The terminal edges of an accepted text, by the bytes of their marks; and the claim on modes. Assumes nothing.
+use Rattle.std.specs.Prelude.{Result, Err}
 use Prim.Native.Nat.{ℕ, zero, suc, ◌-◌, ◌≤◌, ◌<◌}
 use mathlib.Core.Path.{◌≡◌, refl, sym, ap, subst, ◌∙◌}
 use mathlib.Core.Logic.{◌⊎◌, inl, inr}
@@ -18,9 +19,7 @@ use Rattle.graph.specs.ModeClaims.{mark_at, Chosen, EdgeChosen, Answered, ModeMe
 use Rattle.graph.specs.ModeClaims.Chosen.{mode-strong, mark_t, no_mark}
 use Rattle.graph.specs.declared.Cause.{Cause}
 use Rattle.graph.specs.declared.Cause.TheVariants.{TextTooLong}
-use Rattle.graph.specs.declared.ReadOutcome.TheVariants.{Refused}
 use Rattle.graph.specs.declared.CheckedGraph.{CheckedGraph}
-use Rattle.graph.specs.declared.GraphRead.{GraphRead}
 use Rattle.graph.proofs.HeldLaws.{sound}
 use Rattle.graph.specs.WidthClaims.{WidthMeans}
 use Rattle.graph.specs.FormulaClaims.{FormulaMeans}
@@ -116,23 +115,23 @@ module _ {text : Bytes} {g : CheckedGraph} (t : CheckedText text g) where
       }
 
 -- ---- what is answered
-answered : (text : Bytes) {r : GraphRead} → r ≡ read_of text → (graph : Graph) → graph_of text ≡ accepted graph → Answered text graph r
+answered : (text : Bytes) {r : Result CheckedGraph Cause} → r ≡ read_of text → (graph : Graph) → graph_of text ≡ accepted graph → Answered text graph r
 unfolding read_of answer_of held_of held_as
-answered text e graph h = rw (e, h) (record { checked = refl; held = refl; mode = refl; named = refl; signals = refl; constants = refl; vertices = refl; edges = refl })
+answered text e graph h = rw (e, h) (record { graph = held_of text graph; checked = refl; held = refl; mode = refl; named = refl; signals = refl; constants = refl; vertices = refl; edges = refl })
 
-too_long : (text : Bytes) {r : GraphRead} → r ≡ read_of text → 32768 < length text → (cause : Cause) × (r.outcome ≡ Refused cause) × (refusal_of cause ≡ record { number = 1; line = 0 })
+too_long : (text : Bytes) {r : Result CheckedGraph Cause} → r ≡ read_of text → 32768 < length text → (cause : Cause) × (r ≡ Err cause) × (refusal_of cause ≡ record { number = 1; line = 0 })
 unfolding graph_of refusal_of
 too_long text e h = (TextTooLong, refused-outcome text (rw (lt-ltb 32768 (length text) h)) e, refl)
 
 -- THE LAW
-pub mode-means : (text : Bytes) {r : GraphRead} → r ≡ read_of text → ModeMeans text r
+pub mode-means : (text : Bytes) {r : Result CheckedGraph Cause} → r ≡ read_of text → ModeMeans text r
 mode-means text {r} e =
     record {
       accepts = answered text e;
       refuses = λ cause h. refused-outcome text h e;
       too_long = too_long text e;
-      first_line_is = λ h. let t = checked-text text e h in rw (mode-is t) (first_line_is text t.accepts);
-      edges-chosen = λ h i l. edge-chosen (checked-text text e h) i l;
+      first_line_is = λ g h. let t = checked-text text e h in rw (mode-is t) (first_line_is text t.accepts);
+      edges-chosen = λ g h i l. edge-chosen (checked-text text e h) i l;
       another = λ before word after m w q n short. mode_again w q n short e;
       other_word = λ before word after w q short. word-wrong w q short e;
       no_word = λ before after starts b short. word-missing after starts b short e;
@@ -143,5 +142,5 @@ mode-means text {r} e =
     }
 
 -- what the contract of read_graph says, by its equality
-pub claimed : (text : Bytes) {r : GraphRead} → r ≡ read_of text → (r ≡ read_of text) × (GraphMeans text × (ModeMeans text r × (WidthMeans text r × FormulaMeans text r)))
+pub claimed : (text : Bytes) {r : Result CheckedGraph Cause} → r ≡ read_of text → (r ≡ read_of text) × (GraphMeans text × (ModeMeans text r × (WidthMeans text r × FormulaMeans text r)))
 claimed text e = (e, (λ graph h. sound text h, (mode-means text e, (width-means text e, formula-means text e))))

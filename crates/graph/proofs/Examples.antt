@@ -1,4 +1,5 @@
 -- Worked examples: texts and what they are. Byte 9 is a tab, 10 is LF. Assumes nothing.
+use Rattle.std.specs.Prelude.{Ok, Err}
 use mathlib.Core.Path.{◌≡◌, refl}
 use Prim.Native.Nat.{ℕ, ◌+◌}
 use mathlib.Core.Bool.{Bool, true, false}
@@ -43,7 +44,6 @@ use Rattle.graph.specs.Reading.{
 }
 use Rattle.graph.specs.Held.{line_start, line_of, field_start, field_length, field_at, symbol_word, symbols_of, name_places, arc_of, arcs_of, no_arc, filled, held_as, held_of, answer_of, read_of}
 use Rattle.graph.specs.declared.Fault.TheVariants.{WrongShape, WrongOrder, NameRepeated, UnknownVertex, NotFormula, TooDeep, UnknownName}
-use Rattle.graph.specs.declared.ReadOutcome.TheVariants.{Checked}
 use Rattle.graph.specs.declared.Cause.TheVariants.{FaultyLine, NoVertex}
 use Rattle.graph.specs.declared.CheckedGraph.{CheckedGraph}
 
@@ -112,15 +112,15 @@ held_with mode n t =
 
 -- whether the edges of a text are terminal
 abbrev marks_of : Bytes → List Bool
-marks_of text = map (λ a. a.terminal) (take (read_of text).graph.edges (read_of text).graph.arcs)
+marks_of text = elim (read_of text) [ Ok g ↦ map (λ a. a.terminal) (take g.edges g.arcs) | Err cause ↦ [] ]
 
 record Examples : Type 0 where
   graph_g : graph_of text_g ≡ accepted (graph_with Unsaid true)
-  held_g : read_of text_g ≡ record { outcome = Checked; graph = held_with Unsaid 0 true }
+  held_g : read_of text_g ≡ Ok (held_with Unsaid 0 true)
   -- G with `-` for `t`: its edge is terminal, but not after `M terminal`
-  unmarked : read_of (text_with 45) ≡ record { outcome = Checked; graph = held_with Unsaid 0 true }
-  terminal : read_of (Mline (bytes "terminal") ++ text_with 45) ≡ record { outcome = Checked; graph = held_with Terminal 11 false }
-  strong : read_of (Mline (bytes "strong") ++ text_with 45) ≡ record { outcome = Checked; graph = held_with Strong 9 true }
+  unmarked : read_of (text_with 45) ≡ Ok (held_with Unsaid 0 true)
+  terminal : read_of (Mline (bytes "terminal") ++ text_with 45) ≡ Ok (held_with Terminal 11 false)
+  strong : read_of (Mline (bytes "strong") ++ text_with 45) ≡ Ok (held_with Strong 9 true)
   -- two edges, of which one is marked: `E a b - 1 0`, `E a b t 1 1`
   one-marked : marks_of (Va ++ (Vb ++ (Emark 45 (49 ∷ []) (48 ∷ []) ++ Emark 116 (49 ∷ []) (49 ∷ [])))) ≡ false ∷ true ∷ []
   one-marked-terminal : marks_of (Mline (bytes "terminal") ++ (Va ++ (Vb ++ (Emark 45 (49 ∷ []) (48 ∷ []) ++ Emark 116 (49 ∷ []) (49 ∷ []))))) ≡ false ∷ true ∷ []

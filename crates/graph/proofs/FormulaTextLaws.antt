@@ -2,6 +2,9 @@
 -- with 7, with a formula over 16 deep with 8, with a name that is no signal's and no constant's with 9, with one that
 -- means nothing for its widths with 19, and with formulas that mean something it is taken. Byte 9 is a tab, 10 LF,
 -- 69 `E`. Assumes nothing.
+use Rattle.graph.specs.declared.Cause.{Cause}
+use Rattle.graph.specs.declared.CheckedGraph.{CheckedGraph}
+use Rattle.std.specs.Prelude.{is_some, Result, Ok, Err}
 use Prim.Native.Nat.{ℕ, suc, ◌+◌, ◌≤◌, ◌<◌, max}
 use mathlib.Core.Path.{◌≡◌, refl, sym, ap, ◌∙◌}
 use mathlib.Core.Bool.{Bool, true, false}
@@ -18,7 +21,7 @@ use Rattle.formula.specs.Claims.{IsFormula}
 use Rattle.formula.proofs.GrammarComplete.{grammar_means}
 use Rattle.formula.proofs.PostfixLaws.{in_field}
 use Rattle.assertion.specs.Graph.{Bytes, Expr, Name, Edge, Graph, bits_of, signal_bits}
-use Rattle.graph.specs.Pieces.{split, same, place_of, look_up, Declared, placed, look_up_name}
+use Rattle.graph.specs.Pieces.{width_in, split, same, place_of, look_up, Declared, placed, look_up_name}
 use Rattle.graph.specs.Records.{edge, marked, edged, of_fields, record_of}
 use Rattle.graph.specs.Reading.{names_of, found_at, known, fits, resolved, judged_tree, judged_formula, tree_expr, expr_of, edge_of, lower, fault_number, Step, fault, went, unless_faulty, judge_edge, add_edge, add, accepted, finished, read_lines, nothing, graph_of}
 use Rattle.graph.specs.Meaning.{EachWidth, Means}
@@ -28,10 +31,7 @@ use Rattle.graph.specs.FormulaClaims.{Known, AllKnown, Formed, edge_line, EdgeNe
 use Rattle.graph.specs.Held.{read_of}
 use Rattle.graph.specs.declared.Fault.{Fault}
 use Rattle.graph.specs.declared.Fault.TheVariants.{NotFormula, TooDeep, UnknownName, WrongWidth}
-use Rattle.graph.specs.declared.Judged.{Judged}
-use Rattle.graph.specs.declared.Judged.TheVariants.{Fine, Faulty}
 use Rattle.graph.specs.declared.Cause.TheVariants.{FaultyLine}
-use Rattle.graph.specs.declared.GraphRead.{GraphRead}
 use Rattle.graph.proofs.PieceLaws.{split-some}
 use Rattle.graph.proofs.SplitLaws.{split-joined, split-whole, same_equal, same_self}
 use Rattle.graph.proofs.DifferLaws.{Differ}
@@ -60,15 +60,15 @@ module _ (ss cs : List Name) where
     all_known d (group e) h = all_known d e h
     all_known d (join b e f) h = rw (all_known d e h.0, all_known d f h.1)
 
-    found-known : (n : Bytes) → (look_up_name n ns).known ≡ true → Known ss cs n
-    found-known n h = let l = located ss cs wide n h in record { run = l.run; width = (look_up_name n ns).width; named = l.named }
+    found-known : (n : Bytes) → is_some (look_up_name n ns) ≡ true → Known ss cs n
+    found-known n h = let l = located ss cs wide n h in record { run = l.run; width = (width_in (look_up_name n ns)); named = l.named }
 
     known-all : (e : Tree) → known ns s e ≡ true → AllKnown ss cs s e
     unfolding known
     known-all (name p n) h = found-known (take n (drop p s)) h
     known-all (bit_of p n i) h = found-known (take n (drop p s)) h
     known-all (alike p n q m) h =
-        let b = and_both (found_at ns s p n).known (found_at ns s q m).known h in
+        let b = and_both (is_some (found_at ns s p n)) (is_some (found_at ns s q m)) h in
         (found-known (take n (drop p s)) b.0, found-known (take m (drop q s)) b.1)
     known-all (bit b) h = tt
     known-all (not e) h = known-all e h
@@ -97,18 +97,18 @@ place-finds n (v ∷ vs) (Memᴰ.tail m) = by (same n v) refl (place-finds n vs 
     by true e h = sym (same_equal n v e)
     by false e h = h
 
-pub vertex-known : {n : Bytes} {vs : List Bytes} → Memᴰ n vs → (look_up n vs).known ≡ true
+pub vertex-known : {n : Bytes} {vs : List Bytes} → Memᴰ n vs → is_some (look_up n vs) ≡ true
 unfolding look_up
-vertex-known {n} {vs} m = lt-ltb (place_of n vs) (length vs) (place_inside n vs m)
+vertex-known {n} {vs} m = rw (lt-ltb (place_of n vs) (length vs) (place_inside n vs m), is_some)
 
 -- ---- two formulas judged
 -- a formula that is not too deep: its names known or not, its widths fitting or not
-abbrev verdict : Bool → Bool → Judged
-verdict k f = pick k (pick f Fine (Faulty WrongWidth)) (Faulty UnknownName)
+abbrev verdict : Bool → Bool → Result Unit Fault
+verdict k f = pick k (pick f (Ok tt) (Err WrongWidth)) (Err UnknownName)
 
 -- a formula, too deep or not
-abbrev graded : Bool → Bool → Bool → Judged
-graded d k f = pick d (Faulty TooDeep) (verdict k f)
+abbrev graded : Bool → Bool → Bool → Result Unit Fault
+graded d k f = pick d (Err TooDeep) (verdict k f)
 
 tree-judged : (ds : List Declared) {s : Bytes} {e : Tree} → IsFormula s e → judged_formula ds s ≡ graded (ltb 16 (depth_of e)) (known ds s e) (fits ds s e)
 unfolding judged_tree
@@ -118,25 +118,25 @@ formed-judged : (ds : List Declared) {s : Bytes} {e : Tree} → Formed s e → j
 formed-judged ds {s} {e} h = tree-judged ds h.is ∙ rw (le-ltb 16 (depth_of e) h.shallow)
 
 -- no formula is the lowest fault
-lower-unformed : (d k f : Bool) → (lower (Faulty NotFormula) (graded d k f) ≡ Faulty NotFormula) × (lower (graded d k f) (Faulty NotFormula) ≡ Faulty NotFormula)
+lower-unformed : (d k f : Bool) → (lower (Err NotFormula) (graded d k f) ≡ Err NotFormula) × (lower (graded d k f) (Err NotFormula) ≡ Err NotFormula)
 unfolding lower fault_number
 lower-unformed true k f = (refl, refl)
 lower-unformed false true true = (refl, refl)
 lower-unformed false true false = (refl, refl)
 lower-unformed false false f = (refl, refl)
 
-unformed-judged : (ds : List Declared) {a c : Bytes} → ((ea ec : Tree) → IsFormula a ea → IsFormula c ec → ⊥) → lower (judged_formula ds a) (judged_formula ds c) ≡ Faulty NotFormula
+unformed-judged : (ds : List Declared) {a c : Bytes} → ((ea ec : Tree) → IsFormula a ea → IsFormula c ec → ⊥) → lower (judged_formula ds a) (judged_formula ds c) ≡ Err NotFormula
 unfolding judged_tree lower fault_number
 unformed-judged ds {a} {c} n = by (tree_of a) (tree_of c) refl refl
   where
-    by : (p q : Parsed) → tree_of a ≡ p → tree_of c ≡ q → lower (judged_tree ds a p) (judged_tree ds c q) ≡ Faulty NotFormula
+    by : (p q : Parsed) → tree_of a ≡ p → tree_of c ≡ q → lower (judged_tree ds a p) (judged_tree ds c q) ≡ Err NotFormula
     by none none i j = refl
     by none (tree e) i j = (lower-unformed (ltb 16 (depth_of e)) (known ds c e) (fits ds c e)).0
     by (tree e) none i j = (lower-unformed (ltb 16 (depth_of e)) (known ds a e) (fits ds a e)).1
     by (tree e) (tree f) i j = absurd (n e f ((grammar_means a).only e i) ((grammar_means c).only f j))
 
 -- too deep is the lower fault of two formulas
-lower-deep : (d m k l f h : Bool) → (d ≡ false → m ≡ false → ⊥) → lower (graded d k f) (graded m l h) ≡ Faulty TooDeep
+lower-deep : (d m k l f h : Bool) → (d ≡ false → m ≡ false → ⊥) → lower (graded d k f) (graded m l h) ≡ Err TooDeep
 unfolding lower fault_number
 lower-deep true true k l f h n = refl
 lower-deep true false k true f true n = refl
@@ -147,14 +147,14 @@ lower-deep false true true l false h n = refl
 lower-deep false true false l f h n = refl
 lower-deep false false k l f h n = absurd (n refl refl)
 
-deep-judged : (ds : List Declared) {a c : Bytes} {ea ec : Tree} → IsFormula a ea → IsFormula c ec → 16 < max (depth_of ea) (depth_of ec) → lower (judged_formula ds a) (judged_formula ds c) ≡ Faulty TooDeep
+deep-judged : (ds : List Declared) {a c : Bytes} {ea ec : Tree} → IsFormula a ea → IsFormula c ec → 16 < max (depth_of ea) (depth_of ec) → lower (judged_formula ds a) (judged_formula ds c) ≡ Err TooDeep
 deep-judged ds {a} {c} {ea} {ec} ha hc deep =
     rw (tree-judged ds ha, tree-judged ds hc)
     (lower-deep (ltb 16 (depth_of ea)) (ltb 16 (depth_of ec)) (known ds a ea) (known ds c ec) (fits ds a ea) (fits ds c ec)
     (λ i j. omega (arith, ltb-false 16 (depth_of ea) i, ltb-false 16 (depth_of ec) j)))
 
 -- an unknown name is the lower fault
-lower-unknown : (k l f h : Bool) → (k ≡ true → l ≡ true → ⊥) → lower (verdict k f) (verdict l h) ≡ Faulty UnknownName
+lower-unknown : (k l f h : Bool) → (k ≡ true → l ≡ true → ⊥) → lower (verdict k f) (verdict l h) ≡ Err UnknownName
 unfolding lower fault_number
 lower-unknown true true f h n = absurd (n refl refl)
 lower-unknown true false true h n = refl
@@ -163,7 +163,7 @@ lower-unknown false true f true n = refl
 lower-unknown false true f false n = refl
 lower-unknown false false f h n = refl
 
-lower_width : (f h : Bool) → (f ≡ true → h ≡ true → ⊥) → lower (verdict true f) (verdict true h) ≡ Faulty WrongWidth
+lower_width : (f h : Bool) → (f ≡ true → h ≡ true → ⊥) → lower (verdict true f) (verdict true h) ≡ Err WrongWidth
 unfolding lower fault_number
 lower_width true true n = absurd (n refl refl)
 lower_width true false n = refl
@@ -171,7 +171,7 @@ lower_width false true n = refl
 lower_width false false n = refl
 
 module _ (ss cs : List Name) (wide : EachWidth (ss ++ cs)) {a c : Bytes} {ea ec : Tree} (ha : Formed a ea) (hc : Formed c ec) where
-  unknown-judged : (AllKnown ss cs a ea × AllKnown ss cs c ec → ⊥) → lower (judged_formula (ns ss cs) a) (judged_formula (ns ss cs) c) ≡ Faulty UnknownName
+  unknown-judged : (AllKnown ss cs a ea × AllKnown ss cs c ec → ⊥) → lower (judged_formula (ns ss cs) a) (judged_formula (ns ss cs) c) ≡ Err UnknownName
   unknown-judged n =
       rw (formed-judged (ns ss cs) ha, formed-judged (ns ss cs) hc)
       (lower-unknown (known (ns ss cs) a ea) (known (ns ss cs) c ec) (fits (ns ss cs) a ea) (fits (ns ss cs) c ec) (λ k l. n (known-all ss cs wide a ea k, known-all ss cs wide c ec l)))
@@ -180,7 +180,7 @@ module _ (ss cs : List Name) (wide : EachWidth (ss ++ cs)) {a c : Bytes} {ea ec 
   formed-means : {s : Bytes} {e : Tree} → Formed s e → known (ns ss cs) s e ≡ true → fits (ns ss cs) s e ≡ true → Means ss cs s e (resolved (bits_of ss) (ns ss cs) s e)
   formed-means {s} {e} h k f = meaning ss cs wide s e (in_field s e ((grammar_means s).every e h.is)) k f
 
-  width-judged : Differ (ss ++ cs) → AllKnown ss cs a ea × AllKnown ss cs c ec → ((x y : Expr) → Means ss cs a ea x → Means ss cs c ec y → ⊥) → lower (judged_formula (ns ss cs) a) (judged_formula (ns ss cs) c) ≡ Faulty WrongWidth
+  width-judged : Differ (ss ++ cs) → AllKnown ss cs a ea × AllKnown ss cs c ec → ((x y : Expr) → Means ss cs a ea x → Means ss cs c ec y → ⊥) → lower (judged_formula (ns ss cs) a) (judged_formula (ns ss cs) c) ≡ Err WrongWidth
   width-judged d h n =
       let k = all_known ss cs wide a d ea h.0 in
       let l = all_known ss cs wide c d ec h.1 in
@@ -192,7 +192,7 @@ module _ (g : Graph) (wide : EachWidth (g.signals ++ g.constants)) (differ : Dif
   abbrev as_meant : Resolves g.signals g.constants s e x
   as_meant = means-resolves g.signals g.constants wide differ m
 
-  formula-fine : judged_formula (names_of g) s ≡ Fine
+  formula-fine : judged_formula (names_of g) s ≡ (Ok tt)
   formula-fine = rw (formed-judged (names_of g) h, as_meant.names-known, as_meant.widths_fit)
 
   formula-read : expr_of g s ≡ x
@@ -219,7 +219,7 @@ module _ (from to : Bytes) (b : Bool) (a c : Bytes) (hf : is_name from ≡ true)
       edge-lines from to b (a ++ (9 ∷ c)) (name-field from hf) (name-field to ht) (split-more a (9 ∷ c) ha.no_lf (one-byte-lines 9 c refl (split-whole 10 c hc.no_lf)))
 
 -- between vertices that are known, and with room, an edge is judged by its formulas
-pub edge-judged : (g : Graph) (from to : Bytes) (b : Bool) (a c : Bytes) → length g.edges < 128 → Memᴰ from g.vertices → Memᴰ to g.vertices → add g (edge from to b a c) ≡ unless_faulty (lower (judged_formula (names_of g) a) (judged_formula (names_of g) c)) g (edge_of g (look_up from g.vertices).place (look_up to g.vertices).place b a c)
+pub edge-judged : (g : Graph) (from to : Bytes) (b : Bool) (a c : Bytes) → length g.edges < 128 → Memᴰ from g.vertices → Memᴰ to g.vertices → add g (edge from to b a c) ≡ unless_faulty (lower (judged_formula (names_of g) a) (judged_formula (names_of g) c)) g (edge_of g (place_of from g.vertices) (place_of to g.vertices) b a c)
 unfolding add add_edge judge_edge
 edge-judged g from to b a c room hf ht = rw (lt-leb 128 (length g.edges) room, vertex-known hf, vertex-known ht)
 
@@ -258,7 +258,7 @@ module _ {text before : Bytes} (line after : Bytes) {g : Graph} (starts : Starts
       ∙ read-on nothing 1 its.ls (split 10 rest) (split-some 10 rest) (ap (read_lines nothing 1) (sym its.alone) ∙ accepted-lines before taken)
       ∙ ap (read_lines g (1 + length its.ls)) (split-joined 10 line after ∙ ap (λ (l : List Bytes). l ++ split 10 after) one)
 
-  line_faulty : split 10 line ≡ line ∷ [] → {f : Fault} → add g (record_of line) ≡ fault f → length text ≤ 32768 → {r : GraphRead} → r ≡ read_of text → RefusedHere before (fault_number f) r
+  line_faulty : split 10 line ≡ line ∷ [] → {f : Fault} → add g (record_of line) ≡ fault f → length text ≤ 32768 → {r : Result CheckedGraph Cause} → r ≡ read_of text → RefusedHere before (fault_number f) r
   line_faulty one {f} wrong short e =
       let n : 1 + length its.ls ≡ breaks before + 1 = omega (arith, its.count) in
       record {
@@ -281,7 +281,7 @@ module _ {text before : Bytes} {g : Graph} {a c : Bytes} (h : EdgeNext text befo
   line_of = edge_line h.from h.to h.mark a c
 
   abbrev edge_of_lem : Edge
-  edge_of_lem = edge_of g (look_up h.from g.vertices).place (look_up h.to g.vertices).place (marked_by h.is-mark).0 a c
+  edge_of_lem = edge_of g (place_of h.from g.vertices) (place_of h.to g.vertices) (marked_by h.is-mark).0 a c
 
   one_line : split 10 line_of ≡ line_of ∷ []
   one_line =
@@ -296,7 +296,7 @@ module _ {text before : Bytes} {g : Graph} {a c : Bytes} (h : EdgeNext text befo
       ∙ edge-judged g h.from h.to m.0 a c h.room h.from-vertex h.to-vertex
 
   -- refused for its formulas
-  formulas_faulty : {f : Fault} → lower (judged_formula (names_of g) a) (judged_formula (names_of g) c) ≡ Faulty f → length text ≤ 32768 → {r : GraphRead} → r ≡ read_of text → RefusedHere before (fault_number f) r
+  formulas_faulty : {f : Fault} → lower (judged_formula (names_of g) a) (judged_formula (names_of g) c) ≡ Err f → length text ≤ 32768 → {r : Result CheckedGraph Cause} → r ≡ read_of text → RefusedHere before (fault_number f) r
   unfolding unless_faulty
   formulas_faulty j short e = line_faulty line_of h.after h.starts h.bytes h.read one_line (edge_step ∙ rw j) short e
 
@@ -318,7 +318,7 @@ module _ {text before : Bytes} {g : Graph} {a c : Bytes} (h : EdgeNext text befo
       }
 
 -- THE LAW
-pub formula-means : (text : Bytes) {r : GraphRead} → r ≡ read_of text → FormulaMeans text r
+pub formula-means : (text : Bytes) {r : Result CheckedGraph Cause} → r ≡ read_of text → FormulaMeans text r
 unfolding fault_number
 formula-means text e =
     record {

@@ -1,5 +1,6 @@
 -- What an accepted text's graph and its arrays satisfy: the limits, the names and formulas at their places,
 -- known vertices, and formulas of the grammar with known names. Assumes nothing.
+use Rattle.std.specs.Prelude.{is_some, Some, None, Result, Ok, Err}
 use Prim.Native.Nat.{ℕ, zero, suc, ◌+◌, ◌-◌, ◌≤◌, ◌<◌}
 use mathlib.Core.Path.{◌≡◌, refl, sym, ap, subst, ◌∙◌}
 use mathlib.Core.Bool.{Bool, true, false}
@@ -15,7 +16,7 @@ use Rattle.formula.specs.Grammar.{Parsed, none, tree, tree_of, depth_of}
 use Rattle.formula.proofs.PostfixLaws.{words-some, words_fit_lem, in_field}
 use Rattle.assertion.specs.Graph.{Bytes, Expr, Name, Edge, Graph, bits_of, signal_bits, constant_bits, is_terminal}
 use Rattle.assertion.specs.declared.Mode.{Mode}
-use Rattle.graph.specs.Pieces.{split, end_at, piece_at, look_up, Declared, placed, look_up_name}
+use Rattle.graph.specs.Pieces.{place_of, split, end_at, piece_at, look_up, Declared, placed, look_up_name}
 use Rattle.graph.specs.Records.{Record, shapeless, mode, signal, constant, vertex, edge, record_of}
 use Rattle.graph.specs.Reading.{
   mode_lines,
@@ -51,8 +52,6 @@ use Rattle.graph.specs.Held.{declared_in, line_start, line_of, field_start, fiel
 use Rattle.graph.specs.Private.Steps.{points, held, named_of, records_of}
 use Rattle.graph.specs.declared.Fault.{Fault}
 use Rattle.graph.specs.declared.Cause.TheVariants.{TextTooLong, FaultyLine, NoVertex}
-use Rattle.graph.specs.declared.Judged.{Judged}
-use Rattle.graph.specs.declared.Judged.TheVariants.{Fine, Faulty}
 use Rattle.graph.specs.Claims.{FormulaAt, FormulaSound, EdgeSound, Sound}
 use Rattle.graph.proofs.PieceLaws.{split-some}
 use Rattle.graph.proofs.BreakLaws.{line-inside, breaks-from}
@@ -98,27 +97,27 @@ pick-went : (t : Bool) (x : Step) (f : Fault) {graph : Graph} → pick t x (faul
 pick-went true x f h = (refl, h)
 pick-went false x f h = let z : ◌≡◌ {A = ℕ} 0 1 = cc in absurd (omega arith)
 
-pick-fine : (t : Bool) (f : Fault) (x : Judged) → pick t (Faulty f) x ≡ Fine → (t ≡ false) × (x ≡ Fine)
+pick-fine : (t : Bool) (f : Fault) (x : Result Unit Fault) → pick t (Err f) x ≡ Ok tt → (t ≡ false) × (x ≡ Ok tt)
 pick-fine true f x h = let z : ◌≡◌ {A = ℕ} 0 1 = cc in absurd (omega arith)
 pick-fine false f x h = (refl, h)
 
-fine-went : (t : Bool) (x : Judged) (f : Fault) → pick t x (Faulty f) ≡ Fine → (t ≡ true) × (x ≡ Fine)
+fine-went : (t : Bool) (x : Result Unit Fault) (f : Fault) → pick t x (Err f) ≡ Ok tt → (t ≡ true) × (x ≡ Ok tt)
 fine-went true x f h = (refl, h)
 fine-went false x f h = let z : ◌≡◌ {A = ℕ} 0 1 = cc in absurd (omega arith)
 
-fine-pick : (t : Bool) (f : Fault) → pick t Fine (Faulty f) ≡ Fine → t ≡ true
+fine-pick : (t : Bool) (f : Fault) → ◌≡◌ {A = Result Unit Fault} (pick t (Ok tt) (Err f)) (Ok tt) → t ≡ true
 fine-pick true f h = refl
 fine-pick false f h = let z : ◌≡◌ {A = ℕ} 0 1 = cc in absurd (omega arith)
 
-lower-fine : (a b : Judged) → lower a b ≡ Fine → (a ≡ Fine) × (b ≡ Fine)
+lower-fine : (a b : Result Unit Fault) → lower a b ≡ Ok tt → (a ≡ Ok tt) × (b ≡ Ok tt)
 unfolding lower
-lower-fine Fine b h = (refl, h)
-lower-fine (Faulty f) Fine h = let z : ◌≡◌ {A = ℕ} 0 1 = cc in absurd (omega arith)
-lower-fine (Faulty f) (Faulty k) h = let z : ◌≡◌ {A = ℕ} 0 1 = cc in absurd (omega arith)
+lower-fine (Ok tt) b h = (refl, h)
+lower-fine (Err f) (Ok tt) h = let z : ◌≡◌ {A = ℕ} 0 1 = cc in absurd (omega arith)
+lower-fine (Err f) (Err k) h = let z : ◌≡◌ {A = ℕ} 0 1 = cc in absurd (omega arith)
 
 -- ---- formulas
 module _ (ss cs : List Name) (wide : EachWidth (ss ++ cs)) (s : Bytes) where
-  tree_sound : (t : Parsed) → tree_of s ≡ t → judged_tree (placed 0 (ss ++ cs)) s t ≡ Fine → FormulaSound ss cs s (tree_expr (bits_of ss) (placed 0 (ss ++ cs)) s t)
+  tree_sound : (t : Parsed) → tree_of s ≡ t → judged_tree (placed 0 (ss ++ cs)) s t ≡ Ok tt → FormulaSound ss cs s (tree_expr (bits_of ss) (placed 0 (ss ++ cs)) s t)
   unfolding judged_tree tree_expr
   tree_sound none e h = let z : ◌≡◌ {A = ℕ} 0 1 = cc in absurd (omega arith)
   tree_sound (tree x) e h =
@@ -135,7 +134,7 @@ module _ (ss cs : List Name) (wide : EachWidth (ss ++ cs)) (s : Bytes) where
         means = meaning ss cs wide s x (in_field s x e) k.0 f;
       }
 
-  formula_sound : judged_formula (placed 0 (ss ++ cs)) s ≡ Fine → FormulaSound ss cs s (tree_expr (bits_of ss) (placed 0 (ss ++ cs)) s (tree_of s))
+  formula_sound : judged_formula (placed 0 (ss ++ cs)) s ≡ Ok tt → FormulaSound ss cs s (tree_expr (bits_of ss) (placed 0 (ss ++ cs)) s (tree_of s))
   formula_sound h = tree_sound (tree_of s) refl h
 
 -- a field begins behind the tab that ends the one before it
@@ -168,9 +167,13 @@ edges_more text ss cs vs n (x ∷ es) e h k =
     (h.0, edges_more text ss cs vs (n + 1) es e h.1 (rw z at k))
 
 -- a known name's place is one of the list
-pub known-place : (n : Bytes) (ms : List Bytes) → (look_up n ms).known ≡ true → (look_up n ms).place < length ms
+pub known-place : (n : Bytes) (ms : List Bytes) → is_some (look_up n ms) ≡ true → place_of n ms < length ms
 unfolding look_up
-known-place n ms h = ltb-true _ _ h
+known-place n ms h = by (ltb (place_of n ms) (length ms)) refl h
+  where
+    by : (t : Bool) → ltb (place_of n ms) (length ms) ≡ t → is_some (elim t [ true ↦ Some (place_of n ms) | false ↦ None ]) ≡ true → place_of n ms < length ms
+    by true e k = ltb-true _ _ e
+    by false e k = let z : ◌≡◌ {A = ℕ} 0 1 = cc in absurd (omega arith)
 
 -- ---- one record more
 -- a graph with one record more is grown, and has one record more
@@ -193,16 +196,16 @@ plus_vertex graph n = record { mode = graph.mode; signals = graph.signals; const
 abbrev pub plus_edge : Graph → Edge → Graph
 plus_edge graph e = record { mode = graph.mode; signals = graph.signals; constants = graph.constants; vertices = graph.vertices; edges = graph.edges ++ (e ∷ []) }
 
-unless_went : (j : Judged) (graph : Graph) (e : Edge) {more : Graph} → unless_faulty j graph e ≡ went more → (j ≡ Fine) × (plus_edge graph e ≡ more)
+unless_went : (j : Result Unit Fault) (graph : Graph) (e : Edge) {more : Graph} → unless_faulty j graph e ≡ went more → (j ≡ Ok tt) × (plus_edge graph e ≡ more)
 unfolding unless_faulty
-unless_went Fine graph e h = (refl, cc)
-unless_went (Faulty f) graph e h = let z : ◌≡◌ {A = ℕ} 0 1 = cc in absurd (omega arith)
+unless_went (Ok tt) graph e h = (refl, cc)
+unless_went (Err f) graph e h = let z : ◌≡◌ {A = ℕ} 0 1 = cc in absurd (omega arith)
 
 module _ (text : Bytes) (graph : Graph) (g : Grown text graph) where
   one_width : (n : Bytes) (w : ℕ) → IsWidth w → EachWidth (sized_name n w ∷ [])
   one_width n w i = (i, tt)
 
-  plus_signal_lem : (n : Bytes) (w : ℕ) → NameAt text (records_of graph) n → IsWidth w → length n ≤ 15 → SymbolFields (line_of text (records_of graph)) 83 n w → (look_up_name n (names_of graph)).known ≡ false → length graph.constants + length graph.vertices + length graph.edges ≤ 0 → signal_bits graph + w ≤ 63 → OneMore text (records_of graph) (plus_signal graph n w)
+  plus_signal_lem : (n : Bytes) (w : ℕ) → NameAt text (records_of graph) n → IsWidth w → length n ≤ 15 → SymbolFields (line_of text (records_of graph)) 83 n w → is_some (look_up_name n (names_of graph)) ≡ false → length graph.constants + length graph.vertices + length graph.edges ≤ 0 → signal_bits graph + w ≤ 63 → OneMore text (records_of graph) (plus_signal graph n w)
   unfolding signal_bits constant_bits
   plus_signal_lem n w p i short fields new late few =
       let x = sized_name n w in
@@ -226,7 +229,7 @@ module _ (text : Bytes) (graph : Graph) (g : Grown text graph) where
         count = omega (arith, one_more_lem graph.signals x);
       }
 
-  plus_constant_lem : (n : Bytes) (w : ℕ) → NameAt text (records_of graph) n → IsWidth w → length n ≤ 15 → SymbolFields (line_of text (records_of graph)) 75 n w → (look_up_name n (names_of graph)).known ≡ false → length graph.vertices + length graph.edges ≤ 0 → constant_bits graph + w ≤ 6 → OneMore text (records_of graph) (plus_constant graph n w)
+  plus_constant_lem : (n : Bytes) (w : ℕ) → NameAt text (records_of graph) n → IsWidth w → length n ≤ 15 → SymbolFields (line_of text (records_of graph)) 75 n w → is_some (look_up_name n (names_of graph)) ≡ false → length graph.vertices + length graph.edges ≤ 0 → constant_bits graph + w ≤ 6 → OneMore text (records_of graph) (plus_constant graph n w)
   unfolding signal_bits constant_bits
   plus_constant_lem n w p i short fields new late few =
       let x = sized_name n w in
@@ -328,7 +331,7 @@ module _ (text : Bytes) (graph : Graph) (g : Grown text graph) where
     signal_step n w p h =
         let a = pick-fault (ltb 0 (length graph.constants + length graph.vertices + length graph.edges)) _ _ h in
         let b = pick-fault (ltb 63 (signal_bits graph + w)) _ _ a.1 in
-        let c = pick-fault (look_up_name n (names_of graph)).known _ _ b.1 in
+        let c = pick-fault (is_some (look_up_name n (names_of graph))) _ _ b.1 in
         let e : plus_signal graph n w ≡ more = cc in
         subst (OneMore text (records_of graph)) e (plus_signal_lem n w p.0 p.1 p.2 p.3 c.0 (ltb-false 0 _ a.0) (ltb-false 63 _ b.0))
 
@@ -337,7 +340,7 @@ module _ (text : Bytes) (graph : Graph) (g : Grown text graph) where
     constant_step n w p h =
         let a = pick-fault (ltb 0 (length graph.vertices + length graph.edges)) _ _ h in
         let b = pick-fault (ltb 6 (constant_bits graph + w)) _ _ a.1 in
-        let c = pick-fault (look_up_name n (names_of graph)).known _ _ b.1 in
+        let c = pick-fault (is_some (look_up_name n (names_of graph))) _ _ b.1 in
         let e : plus_constant graph n w ≡ more = cc in
         subst (OneMore text (records_of graph)) e (plus_constant_lem n w p.0 p.1 p.2 p.3 c.0 (ltb-false 0 _ a.0) (ltb-false 6 _ b.0))
 
@@ -346,7 +349,7 @@ module _ (text : Bytes) (graph : Graph) (g : Grown text graph) where
     vertex_step n p h =
         let a = pick-fault (ltb 0 (length graph.edges)) _ _ h in
         let b = pick-fault (leb 64 (length graph.vertices)) _ _ a.1 in
-        let c = pick-fault (look_up n graph.vertices).known _ _ b.1 in
+        let c = pick-fault (is_some (look_up n graph.vertices)) _ _ b.1 in
         let e : plus_vertex graph n ≡ more = cc in
         subst (OneMore text (records_of graph)) e (plus_vertex_lem n p (ltb-false 0 _ a.0) (leb-false 64 _ b.0))
 
@@ -354,12 +357,12 @@ module _ (text : Bytes) (graph : Graph) (g : Grown text graph) where
     unfolding add_edge judge_edge edge_of arc_of signal_bits
     edge_step f t m a c p h =
         let few = pick-fault (leb 128 (length graph.edges)) _ _ h in
-        let hf = pick-went (look_up f graph.vertices).known _ _ few.1 in
-        let ht = pick-went (look_up t graph.vertices).known _ _ hf.1 in
-        let u = unless_went (lower (judged_formula (names_of graph) a) (judged_formula (names_of graph) c)) graph (edge_of graph (look_up f graph.vertices).place (look_up t graph.vertices).place m a c) ht.1 in
+        let hf = pick-went (is_some (look_up f graph.vertices)) _ _ few.1 in
+        let ht = pick-went (is_some (look_up t graph.vertices)) _ _ hf.1 in
+        let u = unless_went (lower (judged_formula (names_of graph) a) (judged_formula (names_of graph) c)) graph (edge_of graph (place_of f graph.vertices) (place_of t graph.vertices) m a c) ht.1 in
         let l = lower-fine (judged_formula (names_of graph) a) (judged_formula (names_of graph) c) u.0 in
         subst (OneMore text (records_of graph)) u.1
-        (plus_edge_lem (edge_of graph (look_up f graph.vertices).place (look_up t graph.vertices).place m a c)
+        (plus_edge_lem (edge_of graph (place_of f graph.vertices) (place_of t graph.vertices) m a c)
         (record {
           holds = λ b.
               record {

@@ -5,8 +5,10 @@ pub mod SplitLaws
 pub mod BreakLaws
 pub mod LookUpLaws
 pub mod NameLaws
+pub mod OptionLaws
 pub mod WidthFieldLaws
 pub mod RecordLaws
+pub mod SearchLaws
 pub mod EdgeLaws
 pub mod FieldLaws
 pub mod EdgeLineLaws

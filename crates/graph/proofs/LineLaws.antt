@@ -1,4 +1,5 @@
 -- Laws of one line: what its record adds, by the places of its fields. Assumes nothing.
+use Rattle.std.specs.Prelude.{Option, Some, None, Err}
 use Prim.Native.Nat.{ℕ, ◌+◌, ◌-◌, ◌≤◌}
 use mathlib.Core.Path.{◌≡◌, sym, ap, subst, ◌∙◌}
 use mathlib.Core.Bool.{Bool}
@@ -11,18 +12,17 @@ use Rattle.graph.specs.Pieces.{end_at, piece_at}
 use Rattle.graph.specs.Records.{record_of}
 use Rattle.graph.specs.Reading.{add, add_mode, add_signal, add_constant, add_vertex, add_edge}
 use Rattle.graph.specs.Held.{line_start, line_of, field_start, field_at, field_length}
-use Rattle.graph.specs.Private.Steps.{viewed, FieldOf, NameOf, Placed, EdgeAt, faulty_of, added_of}
+use Rattle.graph.specs.Private.Steps.{viewed, FieldOf, NameOf, Placed, EdgeAt, added_of}
 use Rattle.graph.specs.declared.Fault.TheVariants.{WrongShape}
-use Rattle.graph.specs.declared.CheckedGraph.{CheckedGraph}
 use Rattle.graph.specs.declared.Shape.{Shape}
-use Rattle.graph.specs.declared.Shape.TheVariants.{Wrong, Moded, Signal, Constant, Vertex, Edge}
+use Rattle.graph.specs.declared.Shape.TheVariants.{Moded, Signal, Constant, Vertex, Edge}
 use Rattle.graph.proofs.PieceLaws.{piece_take, piece_in, part_in}
 use Rattle.graph.proofs.EdgeLaws.{take_self, up_to-inside}
 
 pub part_length : (text : Bytes) (at end : ℕ) → at ≤ end → end ≤ length text → length (take (end - at) (drop at text)) ≡ end - at
 part_length text at end h l = length-take-le (end - at) (drop at text) (omega (arith, length-drop at text))
 
-module _ (text : Bytes) (graph : Graph) (n at end : ℕ) (ha : at ≡ line_start text n) (he : end ≡ end_at 10 text at) (shape : Shape) (hs : (viewed (take (end - at) (drop at text)) shape ≡ record_of (take (end - at) (drop at text))) × Placed (take (end - at) (drop at text)) shape) where
+module _ (text : Bytes) (graph : Graph) (n at end : ℕ) (ha : at ≡ line_start text n) (he : end ≡ end_at 10 text at) (shape : Option Shape) (hs : (viewed (take (end - at) (drop at text)) shape ≡ record_of (take (end - at) (drop at text))) × Placed (take (end - at) (drop at text)) shape) where
   abbrev line : Bytes
   line = take (end - at) (drop at text)
 
@@ -30,10 +30,10 @@ module _ (text : Bytes) (graph : Graph) (n at end : ℕ) (ha : at ≡ line_start
   unfolding line_of
   is-line = rw (← ha) (piece_take 10 text at end he)
 
-  is_record : {x : Shape} → shape ≡ x → record_of (line_of text n) ≡ viewed line x
+  is_record : {x : Option Shape} → shape ≡ x → record_of (line_of text n) ≡ viewed line x
   is_record {x} e = ap record_of is-line ∙ sym hs.0 ∙ ap (viewed line) e
 
-  is_placed_lem : {x : Shape} → shape ≡ x → Placed line x
+  is_placed_lem : {x : Option Shape} → shape ≡ x → Placed line x
   is_placed_lem e = subst (Placed line) e hs.1
 
   -- a name: its place, its length, and its bytes
@@ -56,28 +56,28 @@ module _ (text : Bytes) (graph : Graph) (n at end : ℕ) (ha : at ≡ line_start
       let i : p ≤ length (piece_at 10 text at) = rw w f.0 in
       sym (piece_in 10 text at p i) ∙ ap (drop p) w
 
-  pub line-wrong : (g : CheckedGraph) → shape ≡ Wrong → faulty_of g WrongShape ≡ added_of text g (add graph (record_of (line_of text n)))
+  pub line-wrong : shape ≡ None → Err WrongShape ≡ added_of text (add graph (record_of (line_of text n)))
   unfolding add viewed added_of
-  line-wrong g e = rw (is_record e)
+  line-wrong e = rw (is_record e)
 
-  pub line-mode : (m : Mode) → shape ≡ Moded m → add_mode graph m ≡ add graph (record_of (line_of text n))
+  pub line-mode : (m : Mode) → shape ≡ Some (Moded m) → add_mode graph m ≡ add graph (record_of (line_of text n))
   unfolding add viewed
   line-mode m e = sym (ap (add graph) (is_record e))
 
   module _ (p j w : ℕ) where
-    pub line_signal : shape ≡ Signal p j w → add_signal graph (take j (drop (at + p) text)) w ≡ add graph (record_of (line_of text n))
+    pub line_signal : shape ≡ Some (Signal p j w) → add_signal graph (take j (drop (at + p) text)) w ≡ add graph (record_of (line_of text n))
     unfolding add viewed
     line_signal e = ap (λ (x : Bytes). add_signal graph x w) (part-is p j (is_placed_lem e).0) ∙ sym (ap (add graph) (is_record e))
 
-    pub line-constant : shape ≡ Constant p j w → add_constant graph (take j (drop (at + p) text)) w ≡ add graph (record_of (line_of text n))
+    pub line-constant : shape ≡ Some (Constant p j w) → add_constant graph (take j (drop (at + p) text)) w ≡ add graph (record_of (line_of text n))
     unfolding add viewed
     line-constant e = ap (λ (x : Bytes). add_constant graph x w) (part-is p j (is_placed_lem e).0) ∙ sym (ap (add graph) (is_record e))
 
-  pub line-vertex : (p : ℕ) → shape ≡ Vertex p → add_vertex graph (piece_at 10 text (at + p)) ≡ add graph (record_of (line_of text n))
+  pub line-vertex : (p : ℕ) → shape ≡ Some (Vertex p) → add_vertex graph (piece_at 10 text (at + p)) ≡ add graph (record_of (line_of text n))
   unfolding add viewed
   line-vertex p e = ap (add_vertex graph) (name-is p (is_placed_lem e)) ∙ sym (ap (add graph) (is_record e))
 
-  module _ (f t : ℕ) (m : Bool) (a c : ℕ) (e : shape ≡ Edge f t m a c) where
+  module _ (f t : ℕ) (m : Bool) (a c : ℕ) (e : shape ≡ Some (Edge f t m a c)) where
     pub line-edge : add_edge graph (piece_at 9 line f) (piece_at 9 line t) m (piece_at 9 line a) (piece_at 9 line c) ≡ add graph (record_of (line_of text n))
     unfolding add viewed
     line-edge = sym (ap (add graph) (is_record e))

@@ -1,4 +1,5 @@
 -- A mark never decides what is refused: two texts that differ in one mark are refused alike. Assumes nothing.
+use Rattle.std.specs.Prelude.{is_some, Result, Ok, Err}
 use Prim.Native.Nat.{ℕ, ◌+◌, ◌≤◌}
 use mathlib.Core.Path.{◌≡◌, refl, ap, subst, ◌∙◌}
 use mathlib.Core.Bool.{Bool, true, false, cond}
@@ -9,7 +10,7 @@ use lib.Dec.{eqb, ltb, leb}
 use lib.ListN.{length, length-append}
 use Rattle.formula.specs.Classes.{pick, is_name}
 use Rattle.assertion.specs.Graph.{Bytes, Edge, Graph, signal_bits, constant_bits}
-use Rattle.graph.specs.Pieces.{onto, split, same, look_up, look_up_name}
+use Rattle.graph.specs.Pieces.{place_of, onto, split, same, look_up, look_up_name}
 use Rattle.graph.specs.Records.{Record, shapeless, mode, signal, constant, vertex, edge, marked, edged, of_fields, record_of}
 use Rattle.graph.specs.Reading.{Step, fault, went, mode_lines, add_mode, add_signal, add_constant, add_vertex, edge_of, names_of, judged_formula, lower, unless_faulty, judge_edge, add_edge, add, Outcome, refused, accepted, finished, read_lines, nothing, graph_of}
 use Rattle.graph.specs.Claims.{IsField}
@@ -18,8 +19,6 @@ use Rattle.graph.specs.ModeClaims.{IsMark, edge_text}
 use Rattle.graph.specs.ModeClaims.IsMark.{t_mark, dash}
 use Rattle.graph.specs.declared.Fault.{Fault}
 use Rattle.graph.specs.declared.Fault.TheVariants.{WrongShape, WrongOrder, TooMany, NameRepeated, UnknownVertex}
-use Rattle.graph.specs.declared.Judged.{Judged}
-use Rattle.graph.specs.declared.Judged.TheVariants.{Fine, Faulty}
 use Rattle.graph.specs.declared.Cause.{Cause}
 use Rattle.graph.specs.declared.Cause.TheVariants.{FaultyLine, NoVertex}
 use Rattle.graph.proofs.PieceLaws.{split-some}
@@ -62,7 +61,7 @@ module _ (g h : Graph) (s : Alike g h) where
   signal_alike n w =
       pick-alike (ltb 0 (length g.constants + length g.vertices + length g.edges)) (ltb 0 (length h.constants + length h.vertices + length h.edges)) (rw (s.constants-are, s.vertices-are, s.as_many)) (both_stop WrongOrder)
       (pick-alike (ltb 63 (signal_bits g + w)) (ltb 63 (signal_bits h + w)) (rw s.signals-are) (both_stop TooMany)
-      (pick-alike (look_up_name n (names_of g)).known (look_up_name n (names_of h)).known (rw (s.signals-are, s.constants-are)) (both_stop NameRepeated)
+      (pick-alike (is_some (look_up_name n (names_of g))) (is_some (look_up_name n (names_of h))) (rw (s.signals-are, s.constants-are)) (both_stop NameRepeated)
       (both_go (plus_signal g n w) (plus_signal h n w) (record { mode-is = s.mode-is; signals-are = rw s.signals-are; constants-are = s.constants-are; vertices-are = s.vertices-are; as_many = s.as_many }))))
 
   constant-alike : (n : Bytes) (w : ℕ) → Steps (add_constant g n w) (add_constant h n w)
@@ -70,7 +69,7 @@ module _ (g h : Graph) (s : Alike g h) where
   constant-alike n w =
       pick-alike (ltb 0 (length g.vertices + length g.edges)) (ltb 0 (length h.vertices + length h.edges)) (rw (s.vertices-are, s.as_many)) (both_stop WrongOrder)
       (pick-alike (ltb 6 (constant_bits g + w)) (ltb 6 (constant_bits h + w)) (rw s.constants-are) (both_stop TooMany)
-      (pick-alike (look_up_name n (names_of g)).known (look_up_name n (names_of h)).known (rw (s.signals-are, s.constants-are)) (both_stop NameRepeated)
+      (pick-alike (is_some (look_up_name n (names_of g))) (is_some (look_up_name n (names_of h))) (rw (s.signals-are, s.constants-are)) (both_stop NameRepeated)
       (both_go (plus_constant g n w) (plus_constant h n w) (record { mode-is = s.mode-is; signals-are = s.signals-are; constants-are = rw s.constants-are; vertices-are = s.vertices-are; as_many = s.as_many }))))
 
   vertex-alike : (n : Bytes) → Steps (add_vertex g n) (add_vertex h n)
@@ -78,26 +77,26 @@ module _ (g h : Graph) (s : Alike g h) where
   vertex-alike n =
       pick-alike (ltb 0 (length g.edges)) (ltb 0 (length h.edges)) (rw s.as_many) (both_stop WrongOrder)
       (pick-alike (leb 64 (length g.vertices)) (leb 64 (length h.vertices)) (rw s.vertices-are) (both_stop TooMany)
-      (pick-alike (look_up n g.vertices).known (look_up n h.vertices).known (rw s.vertices-are) (both_stop NameRepeated)
+      (pick-alike (is_some (look_up n g.vertices)) (is_some (look_up n h.vertices)) (rw s.vertices-are) (both_stop NameRepeated)
       (both_go (plus_vertex g n) (plus_vertex h n) (record { mode-is = s.mode-is; signals-are = s.signals-are; constants-are = s.constants-are; vertices-are = rw s.vertices-are; as_many = s.as_many }))))
 
-  fine-alike : (j k : Judged) → j ≡ k → (d e : Edge) → Steps (unless_faulty j g d) (unless_faulty k h e)
+  fine-alike : (j k : Result Unit Fault) → j ≡ k → (d e : Edge) → Steps (unless_faulty j g d) (unless_faulty k h e)
   unfolding unless_faulty
-  fine-alike Fine Fine q d e =
+  fine-alike (Ok u) (Ok v) q d e =
       both_go (plus_edge g d) (plus_edge h e)
       (record { mode-is = s.mode-is; signals-are = s.signals-are; constants-are = s.constants-are; vertices-are = s.vertices-are; as_many = omega (arith, s.as_many, length-append g.edges (d ∷ []), length-append h.edges (e ∷ [])) })
-  fine-alike Fine (Faulty k) q d e = let z : ◌≡◌ {A = ℕ} 0 1 = cc in absurd (omega arith)
-  fine-alike (Faulty j) Fine q d e = let z : ◌≡◌ {A = ℕ} 0 1 = cc in absurd (omega arith)
-  fine-alike (Faulty j) (Faulty k) q d e = let z : j ≡ k = cc in rw z (both_stop k)
+  fine-alike (Ok tt) (Err k) q d e = let z : ◌≡◌ {A = ℕ} 0 1 = cc in absurd (omega arith)
+  fine-alike (Err j) (Ok tt) q d e = let z : ◌≡◌ {A = ℕ} 0 1 = cc in absurd (omega arith)
+  fine-alike (Err j) (Err k) q d e = let z : j ≡ k = cc in rw z (both_stop k)
 
   edge-alike : (f t : Bytes) (b c : Bool) (x y : Bytes) → Steps (add_edge g f t b x y) (add_edge h f t c x y)
   unfolding add_edge judge_edge
   edge-alike f t b c x y =
       pick-alike (leb 128 (length g.edges)) (leb 128 (length h.edges)) (rw s.as_many) (both_stop TooMany)
-      (pick-alike (look_up f g.vertices).known (look_up f h.vertices).known (rw s.vertices-are)
-      (pick-alike (look_up t g.vertices).known (look_up t h.vertices).known (rw s.vertices-are)
+      (pick-alike (is_some (look_up f g.vertices)) (is_some (look_up f h.vertices)) (rw s.vertices-are)
+      (pick-alike (is_some (look_up t g.vertices)) (is_some (look_up t h.vertices)) (rw s.vertices-are)
       (fine-alike (lower (judged_formula (names_of g) x) (judged_formula (names_of g) y)) (lower (judged_formula (names_of h) x) (judged_formula (names_of h) y)) (rw (s.signals-are, s.constants-are))
-      (edge_of g (look_up f g.vertices).place (look_up t g.vertices).place b x y) (edge_of h (look_up f h.vertices).place (look_up t h.vertices).place c x y))
+      (edge_of g (place_of f g.vertices) (place_of t g.vertices) b x y) (edge_of h (place_of f h.vertices) (place_of t h.vertices) c x y))
       (both_stop UnknownVertex))
       (both_stop UnknownVertex))
 

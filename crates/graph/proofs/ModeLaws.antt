@@ -3,11 +3,11 @@
 use Prim.Native.Nat.{ℕ, zero, suc, ◌+◌, ◌-◌, ◌≤◌, ◌<◌}
 use mathlib.Core.Path.{◌≡◌, refl, sym, ap, ◌∙◌}
 use mathlib.Core.Bool.{Bool, true, false, ◌||◌, cond}
-use mathlib.Core.List.{List, [], ◌∷◌, map}
+use mathlib.Core.List.{List, [], ◌∷◌, map, append-nil}
 use native.Mathlib.Numerals.{add-one}
 use native.Mathlib.Omega.{arith}
-use lib.ListN.{length, get_or, take, drop, set, replicate}
-use lib.Seq.{take_at, drop_at}
+use lib.ListN.{length, get_or, take, drop, set, replicate, drop_of_length-le}
+use lib.Seq.{take_at, drop_at, take_all}
 use Rattle.assertion.specs.Lists.{any}
 use Rattle.assertion.specs.Graph.{Bytes, Edge, Graph, is_terminal}
 use Rattle.assertion.specs.declared.Mode.{Mode}
@@ -144,5 +144,15 @@ made_suc [] (suc i) = refl
 made_suc (a ∷ l) zero = refl
 made_suc (a ∷ l) (suc i) = ap (◌∷◌ (made_terminal a)) (made_suc l i)
 
-pub made_more : (l : List Arc) (i : ℕ) → set (all_terminal i l) i (made_terminal (get_or l i no_arc)) ≡ all_terminal (i + 1) l
-made_more l i = rw (add-one i) (made_suc l i)
+made_at : (l : List Arc) (i : ℕ) → get_or (all_terminal i l) i no_arc ≡ get_or l i no_arc
+made_at [] zero = refl
+made_at [] (suc i) = refl
+made_at (a ∷ l) zero = refl
+made_at (a ∷ l) (suc i) = made_at l i
+
+pub made_more : (l : List Arc) (i : ℕ) {items : List Arc} → items ≡ all_terminal i l → set items i (made_terminal (get_or items i no_arc)) ≡ all_terminal (i + 1) l
+made_more l i e = rw (e, made_at l i, add-one i) (made_suc l i)
+
+-- all of them
+pub made_all : (l : List Arc) (i : ℕ) {items : List Arc} → items ≡ all_terminal i l → length l ≤ i → items ≡ map made_terminal l
+made_all l i e h = e ∙ rw (take_all i l h, drop_of_length-le l h) (append-nil (map made_terminal l))

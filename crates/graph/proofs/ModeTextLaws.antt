@@ -1,5 +1,7 @@
 -- Laws of `M` lines in a text: the first line decides the mode, a later one is refused, and the other lines are
 -- judged as without it. Assumes nothing.
+use Rattle.graph.specs.declared.CheckedGraph.{CheckedGraph}
+use Rattle.std.specs.Prelude.{is_some, Result, Ok, Err}
 use Prim.Native.Nat.{ℕ, suc, ◌+◌, ◌≤◌, ◌<◌}
 use mathlib.Core.Path.{◌≡◌, refl, sym, ap, subst, ◌∙◌}
 use mathlib.Core.Bool.{Bool, true, false}
@@ -14,7 +16,7 @@ use Rattle.formula.specs.Classes.{pick}
 use Rattle.assertion.specs.Graph.{Bytes, Edge, Graph, signal_bits, constant_bits}
 use Rattle.assertion.specs.declared.Mode.{Mode}
 use Rattle.assertion.specs.declared.Mode.TheVariants.{Unsaid}
-use Rattle.graph.specs.Pieces.{onto, split, look_up, look_up_name}
+use Rattle.graph.specs.Pieces.{place_of, onto, split, look_up, look_up_name}
 use Rattle.graph.specs.Records.{Record, shapeless, mode, signal, constant, vertex, edge, of_fields, record_of}
 use Rattle.graph.specs.Reading.{Step, fault, went, mode_lines, add_mode, sized_name, add_signal, add_constant, add_vertex, edge_of, unless_faulty, judge_edge, add_edge, add, names_of, judged_formula, lower, refused, accepted, finished, read_lines, nothing, fault_number, refusal_of, graph_of}
 use Rattle.graph.specs.Claims.{breaks}
@@ -27,11 +29,7 @@ use Rattle.graph.specs.ModeClaims.RefusedAfter.{here, earlier}
 use Rattle.graph.specs.Private.Steps.{records_of}
 use Rattle.graph.specs.declared.Fault.{Fault}
 use Rattle.graph.specs.declared.Fault.TheVariants.{WrongShape, WrongOrder, TooMany, NameRepeated, UnknownVertex}
-use Rattle.graph.specs.declared.Judged.{Judged}
-use Rattle.graph.specs.declared.Judged.TheVariants.{Fine, Faulty}
 use Rattle.graph.specs.Held.{answer_of, read_of}
-use Rattle.graph.specs.declared.ReadOutcome.TheVariants.{Refused}
-use Rattle.graph.specs.declared.GraphRead.{GraphRead}
 use Rattle.graph.specs.declared.Cause.{Cause}
 use Rattle.graph.specs.declared.Cause.TheVariants.{TextTooLong, FaultyLine}
 use Rattle.graph.proofs.PieceLaws.{split-some}
@@ -87,28 +85,28 @@ module _ {P : Graph → Type 0} where
   module _ (g : Graph) where
     signal_leads : (n : Bytes) (w : ℕ) → P (plus_signal g n w) → Leads P (add_signal g n w)
     unfolding add_signal
-    signal_leads n w h = tested (ltb 0 (length g.constants + length g.vertices + length g.edges)) (ltb 63 (signal_bits g + w)) (look_up_name n (names_of g)).known WrongOrder TooMany NameRepeated (plus_signal g n w) h
+    signal_leads n w h = tested (ltb 0 (length g.constants + length g.vertices + length g.edges)) (ltb 63 (signal_bits g + w)) (is_some (look_up_name n (names_of g))) WrongOrder TooMany NameRepeated (plus_signal g n w) h
 
     constant_leads : (n : Bytes) (w : ℕ) → P (plus_constant g n w) → Leads P (add_constant g n w)
     unfolding add_constant
-    constant_leads n w h = tested (ltb 0 (length g.vertices + length g.edges)) (ltb 6 (constant_bits g + w)) (look_up_name n (names_of g)).known WrongOrder TooMany NameRepeated (plus_constant g n w) h
+    constant_leads n w h = tested (ltb 0 (length g.vertices + length g.edges)) (ltb 6 (constant_bits g + w)) (is_some (look_up_name n (names_of g))) WrongOrder TooMany NameRepeated (plus_constant g n w) h
 
     vertex_leads : (n : Bytes) → P (plus_vertex g n) → Leads P (add_vertex g n)
     unfolding add_vertex
-    vertex_leads n h = tested (ltb 0 (length g.edges)) (leb 64 (length g.vertices)) (look_up n g.vertices).known WrongOrder TooMany NameRepeated (plus_vertex g n) h
+    vertex_leads n h = tested (ltb 0 (length g.edges)) (leb 64 (length g.vertices)) (is_some (look_up n g.vertices)) WrongOrder TooMany NameRepeated (plus_vertex g n) h
 
-    fine_leads : (j : Judged) (e : Edge) → P (plus_edge g e) → Leads P (unless_faulty j g e)
+    fine_leads : (j : Result Unit Fault) (e : Edge) → P (plus_edge g e) → Leads P (unless_faulty j g e)
     unfolding unless_faulty
-    fine_leads Fine e h = led (plus_edge g e) h
-    fine_leads (Faulty k) e h = stopped k
+    fine_leads (Ok tt) e h = led (plus_edge g e) h
+    fine_leads (Err k) e h = stopped k
 
     edge_leads : (f t : Bytes) (m : Bool) (a c : Bytes) → ((e : Edge) → P (plus_edge g e)) → Leads P (add_edge g f t m a c)
     unfolding add_edge judge_edge
     edge_leads f t m a c h =
-        let e = edge_of g (look_up f g.vertices).place (look_up t g.vertices).place m a c in
+        let e = edge_of g (place_of f g.vertices) (place_of t g.vertices) m a c in
         pick_leads (leb 128 (length g.edges)) (stopped TooMany)
-        (pick_leads (look_up f g.vertices).known
-        (pick_leads (look_up t g.vertices).known (fine_leads (lower (judged_formula (names_of g) a) (judged_formula (names_of g) c)) e (h e)) (stopped UnknownVertex))
+        (pick_leads (is_some (look_up f g.vertices))
+        (pick_leads (is_some (look_up t g.vertices)) (fine_leads (lower (judged_formula (names_of g) a) (judged_formula (names_of g) c)) e (h e)) (stopped UnknownVertex))
         (stopped UnknownVertex))
 
     mode_leads : (m : Mode) → P (plus_mode g m) → Leads P (add_mode g m)
@@ -284,7 +282,7 @@ first_line_is text {last} e = by (split 10 text) refl (accepted-lines text e)
     by (l ∷ x ∷ ls) k h = step l x ls k (add nothing (record_of l)) refl h
 
 -- ---- a line after others
-pub refused-outcome : (text : Bytes) {cause : Cause} → graph_of text ≡ refused cause → {r : GraphRead} → r ≡ read_of text → r.outcome ≡ Refused cause
+pub refused-outcome : (text : Bytes) {cause : Cause} → graph_of text ≡ refused cause → {r : Result CheckedGraph Cause} → r ≡ read_of text → r ≡ Err cause
 unfolding read_of answer_of
 refused-outcome text h e = rw (e, h)
 
@@ -303,7 +301,7 @@ module _ {text before : Bytes} (rest : Bytes) (starts : StartsLine before) (byte
   pub read : graph_of text ≡ read_lines nothing 1 (its.ls ++ split 10 rest)
   read = short-lines text short ∙ ap (read_lines nothing 1) (ap (split 10) bytes-are ∙ its.further rest)
 
-  pub rest-refused : (f : Fault) → ((more : Graph) (n : ℕ) → (1 ≤ length its.ls → 1 ≤ records_of more) → read_lines more n (split 10 rest) ≡ refused (FaultyLine f n)) → {r : GraphRead} → r ≡ read_of text → RefusedAfter before (fault_number f) r
+  pub rest-refused : (f : Fault) → ((more : Graph) (n : ℕ) → (1 ≤ length its.ls → 1 ≤ records_of more) → read_lines more n (split 10 rest) ≡ refused (FaultyLine f n)) → {r : Result CheckedGraph Cause} → r ≡ read_of text → RefusedAfter before (fault_number f) r
   rest-refused f h {r} e = by (prefix nothing 1 its.ls)
     where
       none : ◌≡◌ {A = List Bytes} ([] ∷ []) [] → ⊥
@@ -315,7 +313,7 @@ module _ {text before : Bytes} (rest : Bytes) (starts : StartsLine before) (byte
           let n : 1 + length its.ls ≡ breaks before + 1 = omega (arith, its.count) in
           here (FaultyLine f (1 + length its.ls)) (refused-outcome text (read ∙ a (split 10 rest) (split-some 10 rest) ∙ h more (1 + length its.ls) (λ k. c (omega arith))) e) (numbered f n)
 
-pub mode_again : {text before word after : Bytes} {m : Mode} → ModeLine text before word after → ModeWord word m → (before ≡ [] → ⊥) → length text ≤ 32768 → {r : GraphRead} → r ≡ read_of text → RefusedAfter before 3 r
+pub mode_again : {text before word after : Bytes} {m : Mode} → ModeLine text before word after → ModeWord word m → (before ≡ [] → ⊥) → length text ≤ 32768 → {r : Result CheckedGraph Cause} → r ≡ read_of text → RefusedAfter before 3 r
 unfolding add fault_number
 mode_again {before = before} {word = word} {after = after} {m = m} w q some short e =
     rest-refused (77 ∷ 9 ∷ (word ++ (10 ∷ after))) w.starts w.bytes short WrongOrder
@@ -323,14 +321,14 @@ mode_again {before = before} {word = word} {after = after} {m = m} w q some shor
     (read_some more n (77 ∷ 9 ∷ word) (split 10 after) (split-some 10 after) (ap (add more) (line_said q) ∙ mode-refused more m (k ((lines_of before w.starts).some some)))))
     e
 
-pub word-wrong : {text before word after : Bytes} → ModeLine text before word after → ((m : Mode) → ModeWord word m → ⊥) → length text ≤ 32768 → {r : GraphRead} → r ≡ read_of text → RefusedAfter before 2 r
+pub word-wrong : {text before word after : Bytes} → ModeLine text before word after → ((m : Mode) → ModeWord word m → ⊥) → length text ≤ 32768 → {r : Result CheckedGraph Cause} → r ≡ read_of text → RefusedAfter before 2 r
 unfolding add fault_number
 word-wrong {word = word} {after = after} w q short e =
     rest-refused (77 ∷ 9 ∷ (word ++ (10 ∷ after))) w.starts w.bytes short WrongShape
     (λ more n k. rw (mode_lines_lem word after w.one_line) (read_some more n (77 ∷ 9 ∷ word) (split 10 after) (split-some 10 after) (ap (add more) (line-not word q))))
     e
 
-pub word-missing : {text before : Bytes} (after : Bytes) → StartsLine before → text ≡ before ++ (77 ∷ 10 ∷ after) → length text ≤ 32768 → {r : GraphRead} → r ≡ read_of text → RefusedAfter before 2 r
+pub word-missing : {text before : Bytes} (after : Bytes) → StartsLine before → text ≡ before ++ (77 ∷ 10 ∷ after) → length text ≤ 32768 → {r : Result CheckedGraph Cause} → r ≡ read_of text → RefusedAfter before 2 r
 unfolding add fault_number record_of of_fields split onto
 word-missing after starts b short e =
     rest-refused (77 ∷ 10 ∷ after) starts b short WrongShape (λ more n k. read_some more n (77 ∷ []) (split 10 after) (split-some 10 after) refl) e
@@ -339,7 +337,7 @@ lf_refused : (more : Graph) (n : ℕ) (rest : Bytes) → split 10 (77 ∷ rest) 
 unfolding read_lines
 lf_refused more n rest e = rw e
 
-pub lf_missing : {text before : Bytes} (rest : Bytes) → StartsLine before → text ≡ before ++ (77 ∷ rest) → ((left right : Bytes) → rest ≡ left ++ (10 ∷ right) → ⊥) → length text ≤ 32768 → {r : GraphRead} → r ≡ read_of text → RefusedAfter before 2 r
+pub lf_missing : {text before : Bytes} (rest : Bytes) → StartsLine before → text ≡ before ++ (77 ∷ rest) → ((left right : Bytes) → rest ≡ left ++ (10 ∷ right) → ⊥) → length text ≤ 32768 → {r : Result CheckedGraph Cause} → r ≡ read_of text → RefusedAfter before 2 r
 unfolding fault_number
 lf_missing rest starts b without short e =
     rest-refused (77 ∷ rest) starts b short WrongShape (λ more n k. lf_refused more n rest (split-whole 10 (77 ∷ rest) none)) e

@@ -1,73 +1,82 @@
 -- A vertex looked up among those whose names start at places of a text, and a signal or a constant among those
 -- declared. Assumes nothing.
-use Prim.Native.Nat.{ℕ, suc, ◌+◌, ◌/◌, ◌%◌, ◌≤◌, ◌<◌, min}
-use mathlib.Core.Path.{◌≡◌, sym, ◌∙◌}
+use Rattle.std.specs.Prelude.{Option, Some, None}
+use Rattle.std.specs.Option.{MatchOption}
+use Rattle.std.specs.List.{AllWithin, HoldsAt}
+use Prim.Native.Nat.{ℕ, zero, suc, ◌+◌, ◌/◌, ◌%◌, ◌≤◌, ◌<◌, min}
+use mathlib.Core.Path.{◌≡◌, refl, sym, ap, ◌∙◌}
 use mathlib.Core.Bool.{Bool, true, false}
-use mathlib.Core.List.{List, ◌∷◌}
+use mathlib.Core.List.{List, [], ◌∷◌}
 use native.Mathlib.Numerals.{add-one}
 use native.Mathlib.Omega.{arith}
 use native.Mathlib.Decide.{dec_lt}
+use borrow.Author.Tests.{lt-ltb, le-ltb}
 use lib.Dec.{ltb}
-use lib.ListN.{length, get_or, take, drop, length-map, length-take, drop_of_length-le}
-use lib.Seq.{drop-cons, get_or-take, length-take-le, take_all}
+use lib.ListN.{length, get_or, take, drop, length-map, drop_of_length-le}
+use lib.Seq.{drop-cons, take_all}
 use Rattle.assertion.specs.Graph.{Bytes}
 use Rattle.graph.specs.Pieces.{piece_at, same, place_of, look_up, look_up_name}
 use Rattle.graph.specs.Held.{declared_in}
 use Rattle.graph.specs.Private.Steps.{points, held}
-use Rattle.graph.specs.declared.Found.{Found}
-use Rattle.graph.specs.declared.FoundName.{FoundName}
 
 -- ---- a vertex
-module _ (text name : Bytes) (starts : List ℕ) (count k : ℕ) (h : count ≤ length starts) where
-  pub place_found : {own : Bytes} {t : Bool} → k < count → own ≡ piece_at 10 text (get_or starts k 0) → t ≡ same name own → t ≡ true → place_of name (points text (drop k (take count starts))) ≡ 0
-  unfolding place_of
-  place_found {own} {t} l o r f =
-      let i : k < length (take count starts) = rw (length-take-le count starts h) l in
-      rw (drop-cons (take count starts) k 0 i, get_or-take count starts k 0 l, ← o, ← r, f, place_of)
+module _ (text name : Bytes) where
+  abbrev here : ℕ → Bool
+  here start = same name (piece_at 10 text start)
 
-  pub place-later : {own : Bytes} {t : Bool} → k < count → own ≡ piece_at 10 text (get_or starts k 0) → t ≡ same name own → t ≡ false → place_of name (points text (drop k (take count starts))) ≡ suc (place_of name (points text (drop (k + 1) (take count starts))))
+  place_at : (starts : List ℕ) (i : ℕ) → i < length starts → ((d : ℕ) → here (get_or starts i d) ≡ true) → ((k d : ℕ) → k < i → here (get_or starts k d) ≡ false) → place_of name (points text starts) ≡ i
   unfolding place_of
-  place-later {own} {t} l o r f =
-      let i : k < length (take count starts) = rw (length-take-le count starts h) l in
-      rw (drop-cons (take count starts) k 0 i, get_or-take count starts k 0 l, ← o, ← r, f, place_of, add-one)
+  place_at [] i l h b = absurd (omega arith)
+  place_at (x ∷ xs) zero l h b = rw (h x, place_of)
+  place_at (x ∷ xs) (suc i) l h b = rw (b 0 x (omega arith), place_of) (ap suc (place_at xs i (omega arith) h (λ k d m. b (suc k) d (omega arith))))
 
-  pub place_end_lem : count ≤ k → place_of name (points text (drop k (take count starts))) ≡ 0
+  place_past : (starts : List ℕ) → ((k d : ℕ) → k < length starts → here (get_or starts k d) ≡ false) → place_of name (points text starts) ≡ length starts
   unfolding place_of
-  place_end_lem l =
-      let i : length (take count starts) ≤ k = rw (length-take-le count starts h) l in
-      rw (drop_of_length-le (take count starts) i)
+  place_past [] b = refl
+  place_past (x ∷ xs) b = rw (b 0 x (omega arith), place_of) (ap suc (place_past xs (λ k d m. b (suc k) d (omega arith))))
 
--- among the first count vertices, or all where there are fewer
-pub looked_up : (text name : Bytes) (starts : List ℕ) (count most : ℕ) {at : ℕ} → most ≡ min count (length starts) → at ≡ place_of name (points text (take most starts)) → ◌≡◌ {A = Found} (record { known = ltb at most; place = at }) (look_up name (points text (take count starts)))
-unfolding look_up
-looked_up text name starts count most h p =
-    let few : most ≤ length starts = omega arith in
-    let n : length (points text (take most starts)) ≡ most = length-map (take most starts) (piece_at 10 text) ∙ length-take-le most starts few in
-    rw (← same_first (dec_lt (length starts) count), n, ← p)
-  where
-    same_first : Dec (length starts < count) → take most starts ≡ take count starts
-    same_first (yes l) = take_all most starts (omega arith) ∙ sym (take_all count starts (omega arith))
-    same_first (no l) = let e : most ≡ count = omega arith in rw e
+  found : ℕ → ℕ → Option ℕ
+  found x most = elim (ltb x most) [ true ↦ Some x | false ↦ None ]
+
+  found_at : (starts : List ℕ) (i : ℕ) → place_of name (points text starts) ≡ i → found i (length starts) ≡ look_up name (points text starts)
+  unfolding look_up found
+  found_at starts i e = ap (λ (x : ℕ). found x (length starts)) (sym e) ∙ ap (found (place_of name (points text starts))) (sym (length-map starts (piece_at 10 text)))
+
+  -- what a search of the starts answers
+  pub position_is : (starts : List ℕ) (r : Option ℕ) → MatchOption r (AllWithin (λ x. here x ≡ false) starts 0 (length starts)) (λ i. (i < length starts) × HoldsAt (λ x. here x ≡ true) starts i × AllWithin (λ x. here x ≡ false) starts 0 i) → r ≡ look_up name (points text starts)
+  unfolding found
+  position_is starts None h =
+      ap (λ (t : Bool). elim t [ true ↦ Some (length starts) | false ↦ None ]) (sym (le-ltb (length starts) (length starts) (omega arith)))
+      ∙ found_at starts (length starts) (place_past starts (λ k d l. h k d (omega arith) l))
+  position_is starts (Some i) h =
+      ap (λ (t : Bool). elim t [ true ↦ Some i | false ↦ None ]) (sym (lt-ltb i (length starts) h.0))
+      ∙ found_at starts i (place_at starts i h.0 h.1 (λ k d l. h.2 k d (omega arith) l))
 
 -- ---- a signal or a constant
--- among the first count, or all where there are fewer, of which k are passed
-module _ (text name : Bytes) (symbols : List ℕ) (count k : ℕ) where
+-- the first count, or all where there are fewer
+pub first_least : (symbols : List ℕ) (count : ℕ) {n : ℕ} → n ≡ min count (length symbols) → take n symbols ≡ take count symbols
+first_least symbols count {n} h = by (dec_lt (length symbols) count)
+  where
+    by : Dec (length symbols < count) → take n symbols ≡ take count symbols
+    by (yes l) = take_all n symbols (omega arith) ∙ sym (take_all count symbols (omega arith))
+    by (no l) = let e : n ≡ count = omega arith in rw e
+
+-- of the words k are passed
+module _ (text name : Bytes) (words : List ℕ) (k : ℕ) where
   abbrev word : ℕ
-  word = get_or symbols k 0
+  word = get_or words k 0
 
-  next : k < count → k < length symbols → drop k (take count symbols) ≡ word ∷ drop (k + 1) (take count symbols)
-  next l m =
-      let i : k < length (take count symbols) = omega (arith, length-take count symbols) in
-      rw (← get_or-take count symbols k 0 l, add-one k) (drop-cons (take count symbols) k 0 i)
+  next : k < length words → drop k words ≡ word ∷ drop (k + 1) words
+  next l = rw (add-one k) (drop-cons words k 0 l)
 
-  pub name_found_lem : {own : Bytes} {t : Bool} → k < count → k < length symbols → own ≡ take (word / 4096 % 16) (drop (word / 65536) text) → t ≡ same name own → t ≡ true → ◌≡◌ {A = FoundName} (record { known = true; place = word / 32 % 128; width = word % 32 }) (look_up_name name (held text (drop k (take count symbols))))
+  pub name_found_lem : {own : Bytes} {t : Bool} → k < length words → own ≡ take (word / 4096 % 16) (drop (word / 65536) text) → t ≡ same name own → t ≡ true → Some (record { place = word / 32 % 128; width = word % 32 }) ≡ look_up_name name (held text (drop k words))
   unfolding look_up_name declared_in
-  name_found_lem l m o r f = rw (next l m, ← o, ← r, f, look_up_name)
+  name_found_lem l o r f = rw (next l, ← o, ← r, f, look_up_name)
 
-  pub name-later : {own : Bytes} {t : Bool} → k < count → k < length symbols → own ≡ take (word / 4096 % 16) (drop (word / 65536) text) → t ≡ same name own → t ≡ false → look_up_name name (held text (drop (k + 1) (take count symbols))) ≡ look_up_name name (held text (drop k (take count symbols)))
+  pub name-later : {own : Bytes} {t : Bool} → k < length words → own ≡ take (word / 4096 % 16) (drop (word / 65536) text) → t ≡ same name own → t ≡ false → look_up_name name (held text (drop (k + 1) words)) ≡ look_up_name name (held text (drop k words))
   unfolding look_up_name declared_in
-  name-later l m o r f = rw (next l m, ← o, ← r, f, look_up_name)
+  name-later l o r f = rw (next l, ← o, ← r, f, look_up_name)
 
-  pub name-none : length (take count symbols) ≤ k → ◌≡◌ {A = FoundName} (record { known = false; place = 0; width = 0 }) (look_up_name name (held text (drop k (take count symbols))))
+  pub name-none : length words ≤ k → None ≡ look_up_name name (held text (drop k words))
   unfolding look_up_name
-  name-none l = rw (drop_of_length-le (take count symbols) l)
+  name-none l = rw (drop_of_length-le words l)

@@ -1,11 +1,14 @@
 -- Laws of the pieces of a text, for the code that goes by places. Assumes nothing.
-use Prim.Native.Nat.{ℕ, zero, suc, ◌+◌, ◌-◌, ◌≤◌, ◌<◌}
+use Rattle.std.specs.Prelude.{nat_eq, ◌&&◌}
+use lib.Pointwise.{pointwise}
+use Prim.Native.Nat.{ℕ, zero, suc, ◌+◌, ◌-◌, ◌≤◌, ◌<◌, min}
 use mathlib.Core.Path.{◌≡◌, refl, sym, ap, ◌∙◌}
 use mathlib.Core.Bool.{Bool, true, false}
 use mathlib.Core.List.{List, [], ◌∷◌}
 use native.Mathlib.Nat.{add-zero, add-suc, suc-add}
 use native.Mathlib.Numerals.{add-one}
 use native.Mathlib.Omega.{arith}
+use native.Mathlib.Decide.{dec_lt}
 use borrow.Author.Tests.{eq-eqb, ne_eqb}
 use lib.Dec.{eqb}
 use lib.ListN.{length, get_or, take, drop, length-drop, length-take, drop_of_length-le}
@@ -32,9 +35,13 @@ pub piece_take : (b : ℕ) (s : Bytes) (p e : ℕ) → e ≡ end_at b s p → pi
 unfolding end_at piece_at
 piece_take b s p e h = let n : up_to b (drop p s) ≡ e - p = omega arith in rw n
 
-pub piece_none : (b : ℕ) (s : Bytes) (p : ℕ) → length s ≤ p → piece_at b s p ≡ []
-unfolding piece_at up_to
-piece_none b s p h = rw (drop_of_length-le s h)
+pub piece_least : (b : ℕ) (s : Bytes) (at : ℕ) {p : ℕ} → p ≡ min at (length s) → piece_at b s p ≡ piece_at b s at
+unfolding piece_at
+piece_least b s at {p} h = ap (λ (l : Bytes). take (up_to b l) l) (by (dec_lt (length s) at))
+  where
+    by : Dec (length s < at) → drop p s ≡ drop at s
+    by (yes l) = drop_of_length-le s (omega arith) ∙ sym (drop_of_length-le s (omega arith))
+    by (no l) = let e : p ≡ at = omega arith in rw e
 
 -- ---- the first piece, and the rest
 
@@ -78,47 +85,20 @@ pub split_end : (b : ℕ) (s : Bytes) (p e : ℕ) → e ≡ end_at b s p → len
 split_end b s p e h l = split-last b s p e h l ∙ rw (piece_last b s p e h l)
 
 -- ---- equal bytes
-
-pub same_step : (a b : Bytes) (i : ℕ) → i < length a → i < length b → get_or a i 0 ≡ get_or b i 0 → same (drop i a) (drop i b) ≡ same (drop (i + 1) a) (drop (i + 1) b)
+pub same_is : (a b : Bytes) → pointwise nat_eq a b ≡ same a b
 unfolding same
-same_step a b i h g e = rw (drop-cons a i 0 h, drop-cons b i 0 g, eq-eqb (get_or a i 0) (get_or b i 0) e, same, add-one)
-
-pub same_not : (a b : Bytes) (i : ℕ) → i < length a → i < length b → (get_or a i 0 ≡ get_or b i 0 → ⊥) → same (drop i a) (drop i b) ≡ false
-unfolding same
-same_not a b i h g e = rw (drop-cons a i 0 h, drop-cons b i 0 g, ne_eqb (get_or a i 0) (get_or b i 0) e, same)
-
-pub same-short : (a b : Bytes) (i : ℕ) → i < length a → length b ≤ i → same (drop i a) (drop i b) ≡ false
-unfolding same
-same-short a b i h g = rw (drop-cons a i 0 h, drop_of_length-le b g)
-
-pub same_end : (a b : Bytes) (i : ℕ) → length a ≤ i → i ≤ length b → i ≤ length a → same (drop i a) (drop i b) ≡ eqb (length a) (length b)
-unfolding same
-same_end a b i h g l = rw (drop_of_length-le a h) (go (drop i b) (length-drop i b))
+same_is [] [] = refl
+same_is [] (d ∷ b) = refl
+same_is (c ∷ a) [] = refl
+same_is (c ∷ a) (d ∷ b) = go (eqb c d) (same_is a b)
   where
-    go : (t : Bytes) → length t ≡ length b - i → same [] t ≡ eqb (length a) (length b)
-    go [] e = sym (eq-eqb (length a) (length b) (omega arith))
-    go (d ∷ t) e = sym (ne_eqb (length a) (length b) (λ z. omega arith))
+    go : (t : Bool) → pointwise nat_eq a b ≡ same a b → (t && pointwise nat_eq a b) ≡ elim t [ true ↦ same a b | false ↦ false ]
+    go true h = h
+    go false h = refl
 
--- one byte
-pub same-one : (s : Bytes) (b : ℕ) → length s ≡ 1 → same s (b ∷ []) ≡ eqb (get_or s 0 0) b
-unfolding same
-same-one [] b h = absurd (omega arith)
-same-one (c ∷ []) b h = go (eqb c b)
-  where
-    go : (t : Bool) → elim t [ true ↦ same [] [] | false ↦ false ] ≡ t
-    go true = refl
-    go false = refl
-same-one (c ∷ d ∷ s) b h = absurd (omega arith)
-
-pub same_many : (s : Bytes) (b : ℕ) → (length s ≡ 1 → ⊥) → same s (b ∷ []) ≡ false
-unfolding same
-same_many [] b h = refl
-same_many (c ∷ []) b h = absurd (h refl)
-same_many (c ∷ d ∷ s) b h = go (eqb c b)
-  where
-    go : (t : Bool) → elim t [ true ↦ same (d ∷ s) [] | false ↦ false ] ≡ false
-    go true = refl
-    go false = refl
+-- with the bytes c of a literal
+pub same_told : (a b : Bytes) {c : Bytes} {r t : Bool} → r ≡ pointwise nat_eq a b → b ≡ c → r ≡ t → same a c ≡ t
+same_told a b e g f = sym (ap (same a) g) ∙ sym (same_is a b) ∙ sym e ∙ f
 
 -- the rest of a list, as a part of it
 pub part-rest : (s : Bytes) (p : ℕ) → p ≤ length s → take (length s - p) (drop p s) ≡ drop p s
@@ -166,15 +146,3 @@ unfolding piece_at
 piece_in b s at p h =
     let u : p ≤ up_to b (drop at s) = omega (arith, length-take (up_to b (drop at s)) (drop at s)) in
     drop-take p (up_to b (drop at s)) (drop at s) ∙ rw (← up_to-drop b (drop at s) p u, drop-drop p at s)
-
--- ---- a part of a slice
-
-pub part_none : (s : Bytes) (at n : ℕ) → length s ≤ at → [] ≡ take n (drop at s)
-part_none s at n h = rw (drop_of_length-le s h) (sym (take-nil n))
-
-pub part-some : (s : Bytes) (at n : ℕ) → take (at + n - at) (drop at s) ≡ take n (drop at s)
-part-some s at n = let e : at + n - at ≡ n = omega arith in rw e
-
-pub part_over : (s : Bytes) (at n : ℕ) → length s - at < n → take (length s - at) (drop at s) ≡ take n (drop at s)
-part_over s at n h =
-    take_all (length s - at) (drop at s) (omega (arith, length-drop at s)) ∙ sym (take_all n (drop at s) (omega (arith, length-drop at s)))

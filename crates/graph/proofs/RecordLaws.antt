@@ -1,4 +1,5 @@
 -- Laws of a line's record, for the code that goes by places. Assumes nothing.
+use Rattle.std.specs.Prelude.{Some, None}
 use Prim.Native.Nat.{ℕ, suc, ◌+◌, ◌-◌, ◌≤◌, ◌<◌}
 use mathlib.Core.Path.{◌≡◌, refl, ap, ◌∙◌}
 use mathlib.Core.Bool.{true, false}
@@ -18,45 +19,45 @@ use Rattle.graph.specs.Records.{shapeless, moded, width_of, sized, named, marked
 use Rattle.graph.specs.Meaning.{IsWidth}
 use Rattle.graph.specs.Held.{field_start, field_length}
 use Rattle.graph.specs.Private.Steps.{viewed, NameOf}
-use Rattle.graph.specs.declared.Shape.TheVariants.{Wrong, Moded, Signal, Constant, Vertex, Edge}
+use Rattle.graph.specs.declared.Shape.TheVariants.{Moded, Signal, Constant, Vertex, Edge}
 use Rattle.graph.proofs.PieceLaws.{piece_take, split-cut, split-last, split_end, split-some, part-rest}
 use Rattle.graph.proofs.EdgeLaws.{up_to-inside}
 
 -- the word of an `M` line
 module _ (line word : Bytes) where
-  pub moded-terminal : same word (bytes "terminal") ≡ true → viewed line (Moded Terminal) ≡ moded word
+  pub moded-terminal : same word (bytes "terminal") ≡ true → viewed line (Some (Moded Terminal)) ≡ moded word
   unfolding viewed moded
   moded-terminal s = rw s
 
-  pub moded-strong : same word (bytes "terminal") ≡ false → same word (bytes "strong") ≡ true → viewed line (Moded Strong) ≡ moded word
+  pub moded-strong : same word (bytes "terminal") ≡ false → same word (bytes "strong") ≡ true → viewed line (Some (Moded Strong)) ≡ moded word
   unfolding viewed moded
   moded-strong s t = rw (s, t)
 
-  pub moded-not : same word (bytes "terminal") ≡ false → same word (bytes "strong") ≡ false → viewed line Wrong ≡ moded word
+  pub moded-not : same word (bytes "terminal") ≡ false → same word (bytes "strong") ≡ false → viewed line None ≡ moded word
   unfolding viewed moded
   moded-not s t = rw (s, t)
 
 -- `S` or `K`, a name and its width
 module _ (line : Bytes) (at n w : ℕ) {kind field : Bytes} (hk : kind ≡ piece_at 9 line 0) (hf : field ≡ take n (drop at line)) where
-  pub sized-not : is_name field ≡ false → viewed line Wrong ≡ sized (piece_at 9 line 0) (take n (drop at line)) w
+  pub sized-not : is_name field ≡ false → viewed line None ≡ sized (piece_at 9 line 0) (take n (drop at line)) w
   unfolding viewed sized
   sized-not e = rw (← hk, ← hf, e)
 
   module _ (e : is_name field ≡ true) where
-    pub sized-zero : w ≡ 0 → viewed line Wrong ≡ sized (piece_at 9 line 0) (take n (drop at line)) w
+    pub sized-zero : w ≡ 0 → viewed line None ≡ sized (piece_at 9 line 0) (take n (drop at line)) w
     unfolding viewed sized
     sized-zero z = rw (← hk, ← hf, e, eq-eqb w 0 z)
 
     module _ (some : w ≡ 0 → ⊥) where
-      pub sized_signal : same kind (83 ∷ []) ≡ true → viewed line (Signal at n w) ≡ sized (piece_at 9 line 0) (take n (drop at line)) w
+      pub sized_signal : same kind (83 ∷ []) ≡ true → viewed line (Some (Signal at n w)) ≡ sized (piece_at 9 line 0) (take n (drop at line)) w
       unfolding viewed sized
       sized_signal s = rw (← hk, ← hf, e, ne_eqb w 0 some, s)
 
-      pub sized-constant : same kind (83 ∷ []) ≡ false → same kind (75 ∷ []) ≡ true → viewed line (Constant at n w) ≡ sized (piece_at 9 line 0) (take n (drop at line)) w
+      pub sized-constant : same kind (83 ∷ []) ≡ false → same kind (75 ∷ []) ≡ true → viewed line (Some (Constant at n w)) ≡ sized (piece_at 9 line 0) (take n (drop at line)) w
       unfolding viewed sized
       sized-constant s k = rw (← hk, ← hf, e, ne_eqb w 0 some, s, k)
 
-      pub sized-none : same kind (83 ∷ []) ≡ false → same kind (75 ∷ []) ≡ false → viewed line Wrong ≡ sized (piece_at 9 line 0) (take n (drop at line)) w
+      pub sized-none : same kind (83 ∷ []) ≡ false → same kind (75 ∷ []) ≡ false → viewed line None ≡ sized (piece_at 9 line 0) (take n (drop at line)) w
       unfolding viewed sized
       sized-none s k = rw (← hk, ← hf, e, ne_eqb w 0 some, s, k)
 
@@ -84,11 +85,11 @@ module _ (line : Bytes) (at : ℕ) {kind field : Bytes} (hk : kind ≡ piece_at 
   named-mode m = rw (← hk, ← hf, m)
 
   module _ (m : same kind (77 ∷ []) ≡ false) where
-    pub named-vertex : same kind (86 ∷ []) ≡ true → is_name field ≡ true → viewed line (Vertex at) ≡ named (piece_at 9 line 0) (drop at line)
+    pub named-vertex : same kind (86 ∷ []) ≡ true → is_name field ≡ true → viewed line (Some (Vertex at)) ≡ named (piece_at 9 line 0) (drop at line)
     unfolding viewed named
     named-vertex v e = rw (← hk, ← hf, m, v, e)
 
-    pub named-not : same kind (86 ∷ []) ≡ true → is_name field ≡ false → viewed line Wrong ≡ named (piece_at 9 line 0) (drop at line)
+    pub named-not : same kind (86 ∷ []) ≡ true → is_name field ≡ false → viewed line None ≡ named (piece_at 9 line 0) (drop at line)
     unfolding viewed named
     named-not v e = rw (← hk, ← hf, m, v, e)
 
@@ -98,30 +99,30 @@ unfolding named
 named-sized line at hk l m v = rw (part-rest line at l, ← hk, m, v)
 
 module _ (line : Bytes) (f t m a c : ℕ) {mark : Bytes} (hm : mark ≡ piece_at 9 line m) where
-  pub marked-terminal : same mark (116 ∷ []) ≡ true → viewed line (Edge f t true a c) ≡ marked (piece_at 9 line f) (piece_at 9 line t) (piece_at 9 line m) (piece_at 9 line a) (piece_at 9 line c)
+  pub marked-terminal : same mark (116 ∷ []) ≡ true → viewed line (Some (Edge f t true a c)) ≡ marked (piece_at 9 line f) (piece_at 9 line t) (piece_at 9 line m) (piece_at 9 line a) (piece_at 9 line c)
   unfolding viewed marked
   marked-terminal s = rw (← hm, s)
 
-  pub marked_other : same mark (116 ∷ []) ≡ false → same mark (45 ∷ []) ≡ true → viewed line (Edge f t false a c) ≡ marked (piece_at 9 line f) (piece_at 9 line t) (piece_at 9 line m) (piece_at 9 line a) (piece_at 9 line c)
+  pub marked_other : same mark (116 ∷ []) ≡ false → same mark (45 ∷ []) ≡ true → viewed line (Some (Edge f t false a c)) ≡ marked (piece_at 9 line f) (piece_at 9 line t) (piece_at 9 line m) (piece_at 9 line a) (piece_at 9 line c)
   unfolding viewed marked
   marked_other s u = rw (← hm, s, u)
 
-  pub marked-not : same mark (116 ∷ []) ≡ false → same mark (45 ∷ []) ≡ false → viewed line Wrong ≡ marked (piece_at 9 line f) (piece_at 9 line t) (piece_at 9 line m) (piece_at 9 line a) (piece_at 9 line c)
+  pub marked-not : same mark (116 ∷ []) ≡ false → same mark (45 ∷ []) ≡ false → viewed line None ≡ marked (piece_at 9 line f) (piece_at 9 line t) (piece_at 9 line m) (piece_at 9 line a) (piece_at 9 line c)
   unfolding viewed marked
   marked-not s u = rw (← hm, s, u)
 
 module _ (line f t m a c : Bytes) {kind : Bytes} (hk : kind ≡ piece_at 9 line 0) where
-  pub edged-kind : same kind (69 ∷ []) ≡ false → viewed line Wrong ≡ edged (piece_at 9 line 0) f t m a c
+  pub edged-kind : same kind (69 ∷ []) ≡ false → viewed line None ≡ edged (piece_at 9 line 0) f t m a c
   unfolding viewed edged
   edged-kind s = rw (← hk, s)
 
   module _ (s : same kind (69 ∷ []) ≡ true) {from : Bytes} (hf : from ≡ f) where
-    pub edged-from : is_name from ≡ false → viewed line Wrong ≡ edged (piece_at 9 line 0) f t m a c
+    pub edged-from : is_name from ≡ false → viewed line None ≡ edged (piece_at 9 line 0) f t m a c
     unfolding viewed edged
     edged-from n = rw (← hk, s, ← hf, n)
 
     module _ (n : is_name from ≡ true) {to : Bytes} (ht : to ≡ t) where
-      pub edged-to : is_name to ≡ false → viewed line Wrong ≡ edged (piece_at 9 line 0) f t m a c
+      pub edged-to : is_name to ≡ false → viewed line None ≡ edged (piece_at 9 line 0) f t m a c
       unfolding viewed edged
       edged-to u = rw (← hk, s, ← hf, n, ← ht, u)
 
@@ -156,7 +157,7 @@ abbrev pub Cut : Bytes → ℕ → ℕ → Type 0
 Cut line p e = (e ≡ end_at 9 line p) × (p ≤ e) × (e ≤ length line)
 
 module _ (line : Bytes) {e0 : ℕ} (h0 : Cut line 0 e0) where
-  pub fields_1 : e0 ≡ length line → viewed line Wrong ≡ record_of line
+  pub fields_1 : e0 ≡ length line → viewed line None ≡ record_of line
   unfolding viewed record_of of_fields
   fields_1 z = rw (split-last 9 line 0 e0 h0.0 (omega arith))
 
@@ -180,7 +181,7 @@ module _ (line : Bytes) {e0 : ℕ} (h0 : Cut line 0 e0) where
         cut2 : split 9 line ≡ piece_at 9 line 0 ∷ piece_at 9 line (e0 + 1) ∷ piece_at 9 line (e1 + 1) ∷ split 9 (drop (e2 + 1) line)
         cut2 = cut1 ∙ ap (λ (l : List Bytes). piece_at 9 line 0 ∷ piece_at 9 line (e0 + 1) ∷ l) (split-cut 9 line (e1 + 1) e2 h2.0 (omega arith))
 
-        pub fields_4 : e3 ≡ length line → viewed line Wrong ≡ record_of line
+        pub fields_4 : e3 ≡ length line → viewed line None ≡ record_of line
         unfolding viewed record_of of_fields
         fields_4 z = rw (cut2, split-last 9 line (e2 + 1) e3 h3.0 (omega arith))
 
@@ -188,7 +189,7 @@ module _ (line : Bytes) {e0 : ℕ} (h0 : Cut line 0 e0) where
           cut3 : split 9 line ≡ piece_at 9 line 0 ∷ piece_at 9 line (e0 + 1) ∷ piece_at 9 line (e1 + 1) ∷ piece_at 9 line (e2 + 1) ∷ split 9 (drop (e3 + 1) line)
           cut3 = cut2 ∙ ap (λ (l : List Bytes). piece_at 9 line 0 ∷ piece_at 9 line (e0 + 1) ∷ piece_at 9 line (e1 + 1) ∷ l) (split-cut 9 line (e2 + 1) e3 h3.0 (omega arith))
 
-          pub fields_5 : e4 ≡ length line → viewed line Wrong ≡ record_of line
+          pub fields_5 : e4 ≡ length line → viewed line None ≡ record_of line
           unfolding viewed record_of of_fields
           fields_5 z = rw (cut3, split-last 9 line (e3 + 1) e4 h4.0 (omega arith))
 
@@ -200,7 +201,7 @@ module _ (line : Bytes) {e0 : ℕ} (h0 : Cut line 0 e0) where
             unfolding record_of of_fields
             fields_6 z = rw (cut4, split_end 9 line (e4 + 1) e5 h5.0 (omega arith))
 
-            pub fields_7 : (e5 ≡ length line → ⊥) → viewed line Wrong ≡ record_of line
+            pub fields_7 : (e5 ≡ length line → ⊥) → viewed line None ≡ record_of line
             unfolding viewed record_of of_fields
             fields_7 n5 =
                 rw (cut4, split-cut 9 line (e4 + 1) e5 h5.0 (omega arith)) (more _ _ _ _ _ _ (split 9 (drop (e5 + 1) line)) (split-some 9 (drop (e5 + 1) line)))

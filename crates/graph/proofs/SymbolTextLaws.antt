@@ -1,5 +1,6 @@
 -- Laws of the line of a signal or a constant after lines that are good and have no vertex: it is refused for its bits
 -- or its name, or taken. Byte 9 is a tab, 10 LF, 75 `K`, 83 `S`, 86 `V`, 118 `v`. Assumes nothing.
+use Rattle.std.specs.Prelude.{is_some}
 use Prim.Native.Nat.{ℕ, ◌+◌, ◌≤◌, ◌<◌}
 use mathlib.Core.Path.{◌≡◌, refl, sym, ap, subst, ◌∙◌}
 use mathlib.Core.Bool.{Bool, true, false}
@@ -97,21 +98,21 @@ module _ (name : Bytes) (is_name : is_name name ≡ true) {field : Bytes} {w : �
 
 -- ---- a name that has come, or not
 module _ (n : Bytes) where
-  pub new_unknown : (p : ℕ) (xs : List Name) → ((x : Name) → Memᴰ x xs → x.name ≡ n → ⊥) → (look_up_name n (placed p xs)).known ≡ false
+  pub new_unknown : (p : ℕ) (xs : List Name) → ((x : Name) → Memᴰ x xs → x.name ≡ n → ⊥) → is_some (look_up_name n (placed p xs)) ≡ false
   unfolding look_up_name placed
   new_unknown p [] h = refl
   new_unknown p (x ∷ xs) h = by (same n x.name) refl (new_unknown (p + x.width) xs (λ y m. h y (Memᴰ.tail m)))
     where
-      by : (t : Bool) → same n x.name ≡ t → (look_up_name n (placed (p + x.width) xs)).known ≡ false → (look_up_name n (placed p (x ∷ xs))).known ≡ false
+      by : (t : Bool) → same n x.name ≡ t → is_some (look_up_name n (placed (p + x.width) xs)) ≡ false → is_some (look_up_name n (placed p (x ∷ xs))) ≡ false
       by true e ih = absurd (h x (Memᴰ.head refl) (sym (same_equal n x.name e)))
       by false e ih = rw (placed, look_up_name, e) ih
 
-  come_known : (p : ℕ) (xs : List Name) (x : Name) → Memᴰ x xs → x.name ≡ n → (look_up_name n (placed p xs)).known ≡ true
+  come_known : (p : ℕ) (xs : List Name) (x : Name) → Memᴰ x xs → x.name ≡ n → is_some (look_up_name n (placed p xs)) ≡ true
   unfolding look_up_name placed
   come_known p [] x m e = absurd (elim m [ ])
   come_known p (y ∷ ys) x m e = by (same n y.name) refl m (λ q. come_known (p + y.width) ys x q e)
     where
-      by : (t : Bool) → same n y.name ≡ t → Memᴰ x (y ∷ ys) → (Memᴰ x ys → (look_up_name n (placed (p + y.width) ys)).known ≡ true) → (look_up_name n (placed p (y ∷ ys))).known ≡ true
+      by : (t : Bool) → same n y.name ≡ t → Memᴰ x (y ∷ ys) → (Memᴰ x ys → is_some (look_up_name n (placed (p + y.width) ys)) ≡ true) → is_some (look_up_name n (placed p (y ∷ ys))) ≡ true
       by true s q ih = rw (placed, look_up_name, s)
       by false s (Memᴰ.head q) ih =
           let k : same n y.name ≡ true = rw (← q, e) (same_self n) in
@@ -156,7 +157,7 @@ unfolding add_vertex
 vertex-added g {last} a one =
     let e = pick-fault (ltb 0 (length g.edges)) _ _ a in
     let m = pick-fault (leb 64 (length g.vertices)) _ _ e.1 in
-    let r = pick-fault (look_up v g.vertices).known _ _ m.1 in
+    let r = pick-fault (is_some (look_up v g.vertices)) _ _ m.1 in
     let p : plus_vertex g v ≡ last = cc in
     let l : length (g.vertices ++ (v ∷ [])) ≡ 1 = ap (λ (x : Graph). length x.vertices) p ∙ one in
     subst (First g) p
@@ -219,7 +220,7 @@ module _ {text before : Bytes} (kind : ℕ) (late : 69 < kind) {name field after
         refusal = refl;
       }
 
-  module _ (most bits : ℕ) (ss cs : List Name) (step : add (bare g) (record_of line) ≡ pick (ltb most bits) (fault TooMany) (pick (look_up_name name (names_of g)).known (fault NameRepeated) (went (declared g.mode ss cs)))) where
+  module _ (most bits : ℕ) (ss cs : List Name) (step : add (bare g) (record_of line) ≡ pick (ltb most bits) (fault TooMany) (pick (is_some (look_up_name name (names_of g))) (fault NameRepeated) (went (declared g.mode ss cs)))) where
     bits_over : most < bits → RefusedHere before 4 (read_of text)
     unfolding fault_number
     bits_over l = line_faulty TooMany (step ∙ rw (lt-ltb most bits l))
@@ -227,9 +228,9 @@ module _ {text before : Bytes} (kind : ℕ) (late : 69 < kind) {name field after
     module _ (l : bits ≤ most) where
       name_again : (New g name → ⊥) → RefusedHere before 5 (read_of text)
       unfolding fault_number
-      name_again h = by (look_up_name name (names_of g)).known refl
+      name_again h = by (is_some (look_up_name name (names_of g))) refl
         where
-          by : (t : Bool) → (look_up_name name (names_of g)).known ≡ t → RefusedHere before 5 (read_of text)
+          by : (t : Bool) → is_some (look_up_name name (names_of g)) ≡ t → RefusedHere before 5 (read_of text)
           by true e = line_faulty NameRepeated (step ∙ rw (le-ltb most bits l, e))
           by false e = absurd (h (λ x m q. let k = come_known name 0 (g.signals ++ g.constants) x m q in let z : ◌≡◌ {A = ℕ} 0 1 = cc in omega arith))
 
@@ -242,11 +243,11 @@ module _ {text before : Bytes} (kind : ℕ) (late : 69 < kind) {name field after
 
 -- ---- the step of each kind
 module _ {text before name field after : Bytes} {w : ℕ} {g : Graph} where
-  signal_step : SymbolNext text before 83 name field after w g → g.constants ≡ [] → add (bare g) (record_of (83 ∷ 9 ∷ (name ++ field))) ≡ pick (ltb 63 (signal_bits g + w)) (fault TooMany) (pick (look_up_name name (names_of g)).known (fault NameRepeated) (went (declared g.mode (g.signals ++ (sized_name name w ∷ [])) g.constants)))
+  signal_step : SymbolNext text before 83 name field after w g → g.constants ≡ [] → add (bare g) (record_of (83 ∷ 9 ∷ (name ++ field))) ≡ pick (ltb 63 (signal_bits g + w)) (fault TooMany) (pick (is_some (look_up_name name (names_of g))) (fault NameRepeated) (went (declared g.mode (g.signals ++ (sized_name name w ∷ [])) g.constants)))
   unfolding add add_signal signal_bits
   signal_step s none = ap (add (bare g)) (signal_line name s.is_name s.width) ∙ rw none
 
-  constant_step : SymbolNext text before 75 name field after w g → add (bare g) (record_of (75 ∷ 9 ∷ (name ++ field))) ≡ pick (ltb 6 (constant_bits g + w)) (fault TooMany) (pick (look_up_name name (names_of g)).known (fault NameRepeated) (went (declared g.mode g.signals (g.constants ++ (sized_name name w ∷ [])))))
+  constant_step : SymbolNext text before 75 name field after w g → add (bare g) (record_of (75 ∷ 9 ∷ (name ++ field))) ≡ pick (ltb 6 (constant_bits g + w)) (fault TooMany) (pick (is_some (look_up_name name (names_of g))) (fault NameRepeated) (went (declared g.mode g.signals (g.constants ++ (sized_name name w ∷ [])))))
   unfolding add add_constant constant_bits
   constant_step s = ap (add (bare g)) (constant-line name s.is_name s.width)
 

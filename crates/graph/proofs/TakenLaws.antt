@@ -1,5 +1,6 @@
 -- A tree that means something over names that differ: its names are known, its widths fit, and its names looked up
 -- make of it what it means. Byte 38 is `&`, 61 `=`, 94 `^`, 124 `|`. Assumes nothing.
+use Rattle.std.specs.Prelude.{is_some, Option, Some}
 use Prim.Native.Nat.{ℕ, suc, ◌+◌, ◌-◌, ◌≤◌, ◌<◌}
 use mathlib.Core.Path.{◌≡◌, refl, sym, ap, subst, ◌∙◌}
 use mathlib.Core.Bool.{Bool, true, false}
@@ -11,7 +12,7 @@ use lib.ListN.{length, get_or, length-append}
 use lib.Seq.{get_or-append-add}
 use Rattle.formula.specs.Grammar.{Tree, join}
 use Rattle.assertion.specs.Graph.{Bytes, Run, Expr, neg, Name, bits_of}
-use Rattle.graph.specs.Pieces.{same, Declared, placed, look_up_name}
+use Rattle.graph.specs.Pieces.{place_in, width_in, same, Declared, placed, look_up_name}
 use Rattle.graph.specs.Reading.{known, fits, joined, symbol, run_of, resolved}
 use Rattle.graph.specs.Meaning.{EachWidth, Named, bit_in, Means}
 use Rattle.graph.specs.Meaning.Named.{a_signal, a-constant}
@@ -23,16 +24,16 @@ use Rattle.graph.proofs.DifferLaws.{Differ}
 use Rattle.graph.proofs.MeaningLaws.{bits_parted, width-at, located}
 
 -- a name of a list whose names differ is found where it stands
-listed_found : (p : ℕ) (before : List Name) (x : Name) (after : List Name) → Differ (before ++ (x ∷ after)) → look_up_name x.name (placed p (before ++ (x ∷ after))) ≡ record { known = true; place = p + bits_of before; width = x.width }
+listed_found : (p : ℕ) (before : List Name) (x : Name) (after : List Name) → Differ (before ++ (x ∷ after)) → look_up_name x.name (placed p (before ++ (x ∷ after))) ≡ Some (record { place = p + bits_of before; width = x.width })
 unfolding look_up_name placed bits_of
 listed_found p [] x after h = rw (same_self x.name, look_up_name, add-zero p)
 listed_found p (b ∷ before) x after h =
     by (same x.name b.name) refl (listed_found (p + b.width) before x after (λ i j d l m e. h (suc i) (suc j) d (omega arith) (omega arith) e))
   where
-    found : Bool → FoundName
-    found t = elim t [ true ↦ record { known = true; place = p; width = b.width } | false ↦ look_up_name x.name (placed (p + b.width) (before ++ (x ∷ after))) ]
+    found : Bool → Option FoundName
+    found t = elim t [ true ↦ Some (record { place = p; width = b.width }) | false ↦ look_up_name x.name (placed (p + b.width) (before ++ (x ∷ after))) ]
 
-    by : (t : Bool) → same x.name b.name ≡ t → look_up_name x.name (placed (p + b.width) (before ++ (x ∷ after))) ≡ record { known = true; place = p + b.width + bits_of before; width = x.width } → found t ≡ record { known = true; place = p + (b.width + bits_of before); width = x.width }
+    by : (t : Bool) → same x.name b.name ≡ t → look_up_name x.name (placed (p + b.width) (before ++ (x ∷ after))) ≡ Some (record { place = p + b.width + bits_of before; width = x.width }) → found t ≡ Some (record { place = p + (b.width + bits_of before); width = x.width })
     by true e ih =
         let it : get_or (before ++ (x ∷ after)) (length before + 0) b ≡ x = get_or-append-add before (x ∷ after) 0 b in
         absurd (h 0 (suc (length before + 0)) b (omega arith) (omega (arith, length-append before (x ∷ after))) (sym (same_equal x.name b.name e) ∙ sym (ap (λ (y : Name). y.name) it)))
@@ -44,9 +45,9 @@ module _ (ss cs : List Name) where
 
   -- what names a signal or a constant is found as it
   pub record FoundAs (n : Bytes) (r : Run) (w : ℕ) : Type 0 where
-    pub is_known : (look_up_name n ns).known ≡ true
-    pub width_is : (look_up_name n ns).width ≡ w
-    pub run_is : run_of (bits_of ss) (look_up_name n ns).place ≡ r
+    pub is_known : is_some (look_up_name n ns) ≡ true
+    pub width_is : (width_in (look_up_name n ns)) ≡ w
+    pub run_is : run_of (bits_of ss) (place_in (look_up_name n ns)) ≡ r
 
   -- a tree whose names are known and whose widths fit, and what its names looked up make of it
   pub record Resolves (s : Bytes) (e : Tree) (x : Expr) : Type 0 where
@@ -64,20 +65,20 @@ module _ (ss cs : List Name) where
     named-found {n} (a_signal before after w e) =
         let x : Name = record { name = n; width = w } in
         let l : ss ++ cs ≡ before ++ (x ∷ (after ++ cs)) = rw e (append_assoc before (x ∷ after) cs) in
-        let f : look_up_name n ns ≡ record { known = true; place = bits_of before; width = w } = rw (l, ← zero-add (bits_of before)) (listed_found 0 before x (after ++ cs) (subst Differ l differ)) in
+        let f : look_up_name n ns ≡ Some (record { place = bits_of before; width = w }) = rw (l, ← zero-add (bits_of before)) (listed_found 0 before x (after ++ cs) (subst Differ l differ)) in
         let k : 1 ≤ w = width-at before x (after ++ cs) (subst EachWidth l wide) in
         let m : bits_of ss ≡ bits_of before + w + bits_of after = ap bits_of e ∙ bits_parted before x after in
         record { is_known = rw f; width_is = rw f; run_is = rw (f, lt-ltb (bits_of before) (bits_of ss) (omega arith)) }
     named-found {n} (a-constant before after w e) =
         let x : Name = record { name = n; width = w } in
         let l : ss ++ cs ≡ (ss ++ before) ++ (x ∷ after) = rw e (sym (append_assoc ss before (x ∷ after))) in
-        let f : look_up_name n ns ≡ record { known = true; place = bits_of (ss ++ before); width = w } = rw (l, ← zero-add (bits_of (ss ++ before))) (listed_found 0 (ss ++ before) x after (subst Differ l differ)) in
+        let f : look_up_name n ns ≡ Some (record { place = bits_of (ss ++ before); width = w }) = rw (l, ← zero-add (bits_of (ss ++ before))) (listed_found 0 (ss ++ before) x after (subst Differ l differ)) in
         let m : bits_of (ss ++ before) ≡ bits_of ss + bits_of before = bits-append ss before in
         let d : bits_of (ss ++ before) - bits_of ss ≡ bits_of before = omega arith in
         record { is_known = rw f; width_is = rw f; run_is = rw (f, le-ltb (bits_of (ss ++ before)) (bits_of ss) (omega arith), d) }
 
     -- and its bits, looked up, are those of its run
-    bit_found : {n : Bytes} {r : Run} {w : ℕ} → Named ss cs n r w → (i : ℕ) → i < w → symbol (bits_of ss) ((look_up_name n ns).place + i) ≡ bit_in r i
+    bit_found : {n : Bytes} {r : Run} {w : ℕ} → Named ss cs n r w → (i : ℕ) → i < w → symbol (bits_of ss) ((place_in (look_up_name n ns)) + i) ≡ bit_in r i
     bit_found {n} {r} {w} h i k =
         let f = named-found h in
         let l = located ss cs wide n f.is_known in

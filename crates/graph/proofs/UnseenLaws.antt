@@ -1,4 +1,5 @@
 -- After an `M` line the other lines are judged as without it. Assumes nothing.
+use Rattle.std.specs.Prelude.{is_some, Result, Ok, Err}
 use Prim.Native.Nat.{ℕ, ◌+◌, ◌≤◌}
 use mathlib.Core.Path.{◌≡◌, refl, ap, ◌∙◌}
 use mathlib.Core.Bool.{Bool, true, false}
@@ -20,8 +21,6 @@ use Rattle.graph.specs.ModeClaims.Moved.{taken, later, vertexless}
 use Rattle.graph.specs.Private.Steps.{records_of}
 use Rattle.graph.specs.declared.Fault.{Fault}
 use Rattle.graph.specs.declared.Fault.TheVariants.{WrongShape, WrongOrder, TooMany, NameRepeated}
-use Rattle.graph.specs.declared.Judged.{Judged}
-use Rattle.graph.specs.declared.Judged.TheVariants.{Fine, Faulty}
 use Rattle.graph.specs.declared.Cause.TheVariants.{NoVertex}
 use Rattle.graph.proofs.PieceLaws.{split-some}
 use Rattle.graph.proofs.SplitLaws.{first_piece}
@@ -50,20 +49,20 @@ module _ (m : Mode) where
   module _ (g : Graph) where
     in_signal : (n : Bytes) (w : ℕ) → add_signal (plus_mode g m) n w ≡ in_mode (add_signal g n w)
     unfolding add_signal signal_bits
-    in_signal n w = in_tested (ltb 0 (length g.constants + length g.vertices + length g.edges)) (ltb 63 (signal_bits g + w)) (look_up_name n (names_of g)).known WrongOrder TooMany NameRepeated (plus_signal g n w)
+    in_signal n w = in_tested (ltb 0 (length g.constants + length g.vertices + length g.edges)) (ltb 63 (signal_bits g + w)) (is_some (look_up_name n (names_of g))) WrongOrder TooMany NameRepeated (plus_signal g n w)
 
     in_constant : (n : Bytes) (w : ℕ) → add_constant (plus_mode g m) n w ≡ in_mode (add_constant g n w)
     unfolding add_constant constant_bits
-    in_constant n w = in_tested (ltb 0 (length g.vertices + length g.edges)) (ltb 6 (constant_bits g + w)) (look_up_name n (names_of g)).known WrongOrder TooMany NameRepeated (plus_constant g n w)
+    in_constant n w = in_tested (ltb 0 (length g.vertices + length g.edges)) (ltb 6 (constant_bits g + w)) (is_some (look_up_name n (names_of g))) WrongOrder TooMany NameRepeated (plus_constant g n w)
 
     in_vertex : (n : Bytes) → add_vertex (plus_mode g m) n ≡ in_mode (add_vertex g n)
     unfolding add_vertex
-    in_vertex n = in_tested (ltb 0 (length g.edges)) (leb 64 (length g.vertices)) (look_up n g.vertices).known WrongOrder TooMany NameRepeated (plus_vertex g n)
+    in_vertex n = in_tested (ltb 0 (length g.edges)) (leb 64 (length g.vertices)) (is_some (look_up n g.vertices)) WrongOrder TooMany NameRepeated (plus_vertex g n)
 
-    in_fine : (j : Judged) (e : Edge) → unless_faulty j (plus_mode g m) e ≡ in_mode (unless_faulty j g e)
+    in_fine : (j : Result Unit Fault) (e : Edge) → unless_faulty j (plus_mode g m) e ≡ in_mode (unless_faulty j g e)
     unfolding in_mode unless_faulty
-    in_fine Fine e = refl
-    in_fine (Faulty k) e = refl
+    in_fine (Ok tt) e = refl
+    in_fine (Err k) e = refl
 
     in_edge : (f t : Bytes) (b : Bool) (a c : Bytes) → add_edge (plus_mode g m) f t b a c ≡ in_mode (add_edge g f t b a c)
     unfolding in_mode add_edge judge_edge edge_of signal_bits

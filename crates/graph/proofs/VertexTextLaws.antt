@@ -1,5 +1,6 @@
 -- Laws of the line of a vertex after a text that is accepted: with no edge, with room and with a new name it is taken.
 -- Byte 9 is a tab, 10 LF, 86 `V`. Assumes nothing.
+use Rattle.std.specs.Prelude.{is_some}
 use Prim.Native.Nat.{suc, ◌≤◌, ◌<◌}
 use mathlib.Core.Path.{◌≡◌, refl, ap, ◌∙◌}
 use mathlib.Core.Bool.{Bool, true, false}
@@ -30,9 +31,9 @@ place-past n (v ∷ vs) h = by (same n v) refl (place-past n vs (λ m. h (Memᴰ
     by true e k = absurd (h (Memᴰ.head (same_equal n v e)))
     by false e k = omega (arith, k)
 
-vertex-unknown : (n : Bytes) (vs : List Bytes) → (Memᴰ n vs → ⊥) → (look_up n vs).known ≡ false
+vertex-unknown : (n : Bytes) (vs : List Bytes) → (Memᴰ n vs → ⊥) → is_some (look_up n vs) ≡ false
 unfolding look_up
-vertex-unknown n vs h = le-ltb (place_of n vs) (length vs) (place-past n vs h)
+vertex-unknown n vs h = rw (le-ltb (place_of n vs) (length vs) (place-past n vs h), is_some)
 
 -- the line of a vertex, and its step
 pub vertex_line_lem : (name : Bytes) → is_name name ≡ true → record_of (86 ∷ 9 ∷ name) ≡ vertex name

@@ -1,4 +1,7 @@
 -- Worked examples of names wider than one wire: widths, totals, bits and `==`. Assumes nothing.
+use Rattle.std.specs.Prelude.{ℕ, Result, Ok, Err}
+use Rattle.graph.specs.declared.CheckedGraph.{CheckedGraph}
+use Rattle.graph.specs.declared.Cause.{Cause}
 use mathlib.Core.Path.{◌≡◌, refl}
 use mathlib.Core.List.{List, [], ◌∷◌, ◌++◌}
 use lib.ListN.{take}
@@ -63,6 +66,11 @@ formulas (accepted g) = elim g.edges [ [] ↦ [] | e ∷ es ↦ record { left = 
 abbrev are : Expr → Expr → List Both
 are l r = record { left = l; right = r } ∷ []
 
+-- the first words of the names of a graph that is answered
+abbrev first_names : ℕ → Result CheckedGraph Cause → List ℕ
+first_names n (Ok g) = take n g.names
+first_names n (Err cause) = []
+
 record WideExamples : Type 0 where
   -- signal bits: a is 0 to 3, b 4 to 7, c 8 and 9, p 10; constant bits: k is 0 to 3, j 4 and 5
   lowest : formulas (graph_of (edge (bytes "a[0]") (bytes "k[3]"))) ≡ are (signal 0) (constant 3)
@@ -71,7 +79,7 @@ record WideExamples : Type 0 where
   compared : formulas (graph_of (edge (bytes "!a==b") (bytes "c==j"))) ≡ are (neg (alike (signals_from 0) (signals_from 4) 4)) (alike (signals_from 8) (constants_from 4) 2)
   looser : formulas (graph_of (edge (bytes "a==b=p") (bytes "p=k==a"))) ≡ are (same (alike (signals_from 0) (signals_from 4) 4) (signal 10)) (same (signal 10) (alike (constants_from 0) (signals_from 0) 4))
   -- where the names stand: place of the text, length, first bit, width
-  held : take 7 (read_of (edge (bytes "1") (bytes "1"))).graph.names ≡ symbol_word 2 1 0 4 ∷ symbol_word 8 1 4 4 ∷ symbol_word 14 1 8 2 ∷ symbol_word 20 1 10 1 ∷ symbol_word 24 1 11 4 ∷ symbol_word 30 1 15 2 ∷ 0 ∷ []
+  held : first_names 7 (read_of (edge (bytes "1") (bytes "1"))) ≡ symbol_word 2 1 0 4 ∷ symbol_word 8 1 4 4 ∷ symbol_word 14 1 8 2 ∷ symbol_word 20 1 10 1 ∷ symbol_word 24 1 11 4 ∷ symbol_word 30 1 15 2 ∷ 0 ∷ []
   -- 19, after 9 and 7 and 8, over both formulas
   nineteen : refusal_of (FaultyLine WrongWidth 8) ≡ record { number = 19; line = 8 }
   unknown-after : graph_of (edge (bytes "a[4]&z") (bytes "1")) ≡ refused (FaultyLine UnknownName 8)

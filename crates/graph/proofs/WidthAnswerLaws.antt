@@ -1,4 +1,6 @@
 -- What the reader's answer tells of widths. Assumes nothing.
+use Rattle.graph.specs.declared.Cause.{Cause}
+use Rattle.std.specs.Prelude.{Result}
 use mathlib.Core.Path.{◌≡◌, sym, subst}
 use Prim.Native.Nat.{ℕ, ◌+◌, ◌≤◌, ◌<◌}
 use lib.ListN.{take}
@@ -8,7 +10,6 @@ use Rattle.graph.specs.Claims.{widths_of, SymbolAt}
 use Rattle.graph.specs.ModeClaims.{RefusedHere, RefusedAfter}
 use Rattle.graph.specs.WidthClaims.{WidthMeans}
 use Rattle.graph.specs.declared.CheckedGraph.{CheckedGraph}
-use Rattle.graph.specs.declared.GraphRead.{GraphRead}
 use Rattle.graph.proofs.AnswerLaws.{CheckedText, checked-text}
 use Rattle.graph.proofs.WidthTextLaws.{signal_width, constant-width, vertex-width}
 use Rattle.graph.proofs.SymbolTextLaws.{signal_most, constant_most, signal_again, constant_again, signal_taken, constant-taken, vertex-alone}
@@ -27,13 +28,13 @@ module _ (text : Bytes) (g : CheckedGraph) (c : CheckedText text g) where
   answered-constants : g.constants ≤ 6
   answered-constants = rw c.constants-are c.graph_sound.constants-few
 
-pub width-means : (text : Bytes) {r : GraphRead} → r ≡ read_of text → WidthMeans text r
+pub width-means : (text : Bytes) {r : Result CheckedGraph Cause} → r ≡ read_of text → WidthMeans text r
 width-means text {r} e =
     record {
-      symbols = λ h. answered-symbol text r.graph (checked-text text e h);
-      bits_of_all = λ h. answered-bits text r.graph (checked-text text e h);
-      few-signals = λ h. answered-signals text r.graph (checked-text text e h);
-      few-constants = λ h. answered-constants text r.graph (checked-text text e h);
+      symbols = λ g h. answered-symbol text g (checked-text text e h);
+      bits_of_all = λ g h. answered-bits text g (checked-text text e h);
+      few-signals = λ g h. answered-signals text g (checked-text text e h);
+      few-constants = λ g h. answered-constants text g (checked-text text e h);
       signal_width = λ before name rest after l n s. subst (RefusedAfter before 2) (sym e) (signal_width text before name rest after l n s);
       constant-width = λ before name rest after l n s. subst (RefusedAfter before 2) (sym e) (constant-width text before name rest after l n s);
       vertex-width = λ before name rest after l s. subst (RefusedAfter before 2) (sym e) (vertex-width text before name rest after l s);

@@ -1,4 +1,5 @@
 -- Laws of a width's field: its bytes are the digits of the width, and reading a number decides it. Assumes nothing.
+use Rattle.std.specs.Prelude.{Option, Some, None}
 use Prim.Native.Nat.{ℕ, zero, suc, ◌+◌, ◌≤◌, ◌<◌}
 use mathlib.Core.Path.{◌≡◌, refl, sym, ap, ◌∙◌}
 use mathlib.Core.Bool.{Bool, true, false, not, cond, ◌&&◌, ◌||◌}
@@ -8,7 +9,6 @@ use native.Mathlib.Decide.{dec_lt}
 use lib.Dec.{eqb, leb}
 use lib.ListN.{length, get_or, drop, drop_of_length-le}
 use Rattle.text.specs.Numbers.{digits, is_digit, leading_digits, value_from, is_numeral, read_number}
-use Rattle.text.specs.declared.Number.TheVariants.{Read, None}
 use Rattle.text.proofs.NumberLaws.{value-digits}
 use Rattle.text.proofs.ReadBack.{reads-digits}
 use Rattle.formula.specs.Classes.{pick}
@@ -80,15 +80,21 @@ numeral_index ds h = by (leb 1 (length ds)) (leb (length ds) 5) (eqb (length ds)
     by false b c e = e
 
 -- a field that is read to its end is the digits of its number
-read_whole : (w : Bytes) (v next : ℕ) → read_number w 0 ≡ Read v next → next ≡ length w → w ≡ digits v
+pair : {a b c d : ℕ} → ◌≡◌ {A = Option (ℕ × ℕ)} (Some (a, b)) (Some (c, d)) → (a ≡ c) × (b ≡ d)
+pair {a} {b} {c} {d} k =
+    let e : ◌≡◌ {A = ℕ × ℕ} (a, b) (c, d) = cc in
+    (ap (λ (x : ℕ × ℕ). x.0) e, ap (λ (x : ℕ × ℕ). x.1) e)
+
+read_whole : (w : Bytes) (v next : ℕ) → read_number w 0 ≡ Some (v, next) → next ≡ length w → w ≡ digits v
 unfolding read_number
 read_whole w v next e h = by (is_numeral (leading_digits w)) refl e
   where
-    by : (t : Bool) → is_numeral (leading_digits w) ≡ t → cond t (Read (value_from 0 (leading_digits w)) (0 + length (leading_digits w))) None ≡ Read v next → w ≡ digits v
+    by : (t : Bool) → is_numeral (leading_digits w) ≡ t → cond {A = Option (ℕ × ℕ)} t (Some (value_from 0 (leading_digits w), 0 + length (leading_digits w))) None ≡ Some (v, next) → w ≡ digits v
     by false s k = let z : ◌≡◌ {A = ℕ} 0 1 = cc in absurd (omega arith)
     by true s k =
-        let value : value_from 0 (leading_digits w) ≡ v = cc in
-        let end : 0 + length (leading_digits w) ≡ next = cc in
+        let both = pair k in
+        let value : value_from 0 (leading_digits w) ≡ v = both.0 in
+        let end : 0 + length (leading_digits w) ≡ next = both.1 in
         let rest : drop (length (leading_digits w)) w ≡ [] = drop_of_length-le w {i = length (leading_digits w)} (omega arith) in
         let all : w ≡ leading_digits w = leading_text w ∙ ap (λ (l : List ℕ). leading_digits w ++ l) rest ∙ append-nil (leading_digits w) in
         all ∙ sym (index_digits (leading_digits w) (each_leading w) (numeral_index (leading_digits w) s)) ∙ ap digits value
@@ -99,12 +105,12 @@ unfolding is_digit
 no_digit = refl
 
 -- the digits of a width are read as it
-read-digits : (w : Bytes) (n : ℕ) → width_of w ≡ n → 1 ≤ n → read_number w 0 ≡ Read n (length w)
+read-digits : (w : Bytes) (n : ℕ) → width_of w ≡ n → 1 ≤ n → read_number w 0 ≡ Some (n, length w)
 read-digits w n e h =
     let d = width_is w n e h in
-    let r : read_number (digits n ++ []) 0 ≡ Read n (0 + length (digits n)) = reads-digits n [] [] (omega (arith, d.1)) no_digit in
+    let r : read_number (digits n ++ []) 0 ≡ Some (n, 0 + length (digits n)) = reads-digits n [] [] (omega (arith, d.1)) no_digit in
     let z : 0 + length (digits n) ≡ length (digits n) = omega arith in
-    rw d.0 (ap (λ (s : Bytes). read_number s 0) (sym (append-nil (digits n))) ∙ r ∙ ap (Read n) z)
+    rw d.0 (ap (λ (s : Bytes). read_number s 0) (sym (append-nil (digits n))) ∙ r ∙ ap (λ (x : ℕ). Some (n, x)) z)
 
 module _ (w : Bytes) where
   pub width-none : read_number w 0 ≡ None → 0 ≡ width_of w
@@ -117,12 +123,11 @@ module _ (w : Bytes) where
           absurd (omega arith)
       by (no h) = omega arith
 
-  module _ (v next : ℕ) (e : read_number w 0 ≡ Read v next) where
+  module _ (v next : ℕ) (e : read_number w 0 ≡ Some (v, next)) where
     -- a width is the number read, up to the end
     read_is : 1 ≤ width_of w → (width_of w ≡ v) × (length w ≡ next)
     read_is h =
-        let r = read-digits w (width_of w) refl h in
-        (cc, cc)
+        pair (sym (read-digits w (width_of w) refl h) ∙ e)
 
     pub width-part : (next ≡ length w → ⊥) → 0 ≡ width_of w
     width-part h = by (dec_lt 0 (width_of w))

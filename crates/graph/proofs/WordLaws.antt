@@ -1,16 +1,16 @@
 -- The names of a formula and their widths, looked up in its words. Assumes nothing.
-use Prim.Native.Nat.{ℕ, ◌+◌, ◌-◌, ◌/◌, ◌%◌, ◌≤◌, ◌<◌, min}
-use mathlib.Core.Path.{◌≡◌, refl, sym, ap, ◌∙◌}
+use Rattle.std.specs.Prelude.{is_some, Option, Some, None, Ok, Err}
+use Prim.Native.Nat.{ℕ, ◌-◌, ◌/◌, ◌%◌, ◌≤◌, ◌<◌, min}
+use mathlib.Core.Path.{subst, ◌≡◌, refl, sym, ap, ◌∙◌}
 use mathlib.Core.Logic.{◌⊎◌, ⊎_elim}
 use mathlib.Core.Bool.{Bool, true, false, ◌&&◌}
 use mathlib.Core.List.{List, [], ◌∷◌, ◌++◌, Memᴰ}
-use native.Mathlib.Numerals.{add-one}
 use native.Mathlib.Omega.{arith}
 use native.Mathlib.Decide.{dec_lt}
 use borrow.Author.Tests.{lt-ltb, le-ltb, lt-leb, le-leb}
 use lib.Dec.{ltb, eqb}
-use lib.ListN.{length, get_or, take, drop, replicate, length-append, drop_of_length-le}
-use lib.Seq.{drop-cons, get_or-take, length-take-le, take-append_seam}
+use lib.ListN.{length, take, drop, replicate}
+use lib.Seq.{take-append_seam}
 use Rattle.text.specs.Quoted.{bytes}
 use Rattle.formula.specs.declared.Formula.{Formula}
 use Rattle.formula.specs.Classes.{pick}
@@ -18,15 +18,18 @@ use Rattle.formula.specs.Grammar.{Tree, name, bit_of, alike, bit, not, group, jo
 use Rattle.formula.specs.Reading.{name_word, bit_word, alike_word, byte_word, postfix, padded, answer_of, formula_of}
 use Rattle.formula.specs.Claims.{operators}
 use Rattle.formula.proofs.ByteLaws.{start_bit_lem, operator}
-use Rattle.formula.proofs.PostfixLaws.{NameIn, InField, name-place, name-length, name_word-small, byte_word-large, byte_word-small, bit_word-large, bit_word-small, bit_word-name, bit_word-bit, alike_word-large, alike_word-left, alike_word-right, field-short, in_field}
+use Rattle.formula.proofs.PostfixLaws.{NameIn, InField, name-place, name-length, name_word-small, byte_word-large, byte_word-small, bit_word-large, bit_word-small, bit_word-name, bit_word-bit, alike_word-large, alike_word-left, alike_word-right, field-short, words-few, in_field}
 use Rattle.assertion.specs.Graph.{Bytes}
-use Rattle.graph.specs.Pieces.{Declared, same, look_up_name}
+use Rattle.graph.specs.Pieces.{width_in, Declared, same, look_up_name}
 use Rattle.graph.specs.Reading.{found_at, known, fits, judged_tree, judged_formula}
 use Rattle.graph.specs.Private.Steps.{EachNarrow, name_found, word_known, word_fits, all_words}
 use Rattle.graph.specs.declared.Fault.TheVariants.{NotFormula, TooDeep, UnknownName, WrongWidth}
 use Rattle.graph.specs.declared.FoundName.{FoundName}
-use Rattle.graph.specs.declared.Judged.TheVariants.{Fine, Faulty}
 use Rattle.graph.proofs.MeaningLaws.{pick-both}
+
+and_none : (t u : Bool) → pick (t && false) u false ≡ false
+and_none true u = refl
+and_none false u = refl
 
 -- ---- one word by its kind
 module _ (ns : List Declared) (s : Bytes) (w : ℕ) where
@@ -34,73 +37,71 @@ module _ (ns : List Declared) (s : Bytes) (w : ℕ) where
   unfolding word_known
   known-byte l h = rw (le-leb 4096 w l, lt-ltb w 8192 h)
 
-  pub known-name : w < 4096 → word_known ns s w ≡ (name_found ns s (w % 4096)).known
+  pub known-name : w < 4096 → word_known ns s w ≡ (is_some (name_found ns s (w % 4096)))
   unfolding word_known
   known-name l = rw (lt-leb 4096 w l, lt-leb 16777216 w (omega arith))
 
-  pub known-bit : 8192 ≤ w → w < 16777216 → word_known ns s w ≡ (name_found ns s (w % 4096)).known
+  pub known-bit : 8192 ≤ w → w < 16777216 → word_known ns s w ≡ (is_some (name_found ns s (w % 4096)))
   unfolding word_known
   known-bit l h = rw (le-leb 4096 w (omega arith), le-ltb w 8192 l, lt-leb 16777216 w h)
 
-  pub known_alike : 16777216 ≤ w → word_known ns s w ≡ pick (name_found ns s ((w - 16777216) / 4096)).known (name_found ns s (w % 4096)).known false
+  pub known_alike : 16777216 ≤ w → word_known ns s w ≡ pick (is_some (name_found ns s ((w - 16777216) / 4096))) (is_some (name_found ns s (w % 4096))) false
   unfolding word_known
   known_alike l = rw (le-leb 4096 w (omega arith), le-ltb w 8192 (omega arith), le-leb 16777216 w l)
 
   -- the names of a word found, the left one first
-  pub left-unknown : {x : FoundName} → 16777216 ≤ w → x ≡ name_found ns s ((w - 16777216) / 4096) → x.known ≡ false → false ≡ word_known ns s w
+  pub left-unknown : {x : Option FoundName} → 16777216 ≤ w → x ≡ name_found ns s ((w - 16777216) / 4096) → is_some x ≡ false → false ≡ word_known ns s w
   left-unknown l e f = rw (known_alike l, ← e, f)
 
-  pub both_found : {x y : FoundName} → 16777216 ≤ w → x ≡ name_found ns s ((w - 16777216) / 4096) → x.known ≡ true → y ≡ name_found ns s (w % 4096) → y.known ≡ word_known ns s w
+  pub both_found : {x y : Option FoundName} → 16777216 ≤ w → x ≡ name_found ns s ((w - 16777216) / 4096) → is_some x ≡ true → y ≡ name_found ns s (w % 4096) → is_some y ≡ word_known ns s w
   both_found l e f k = rw (known_alike l, ← e, f, ← k)
 
-  pub one_found : {y : FoundName} → (w < 4096) ⊎ (8192 ≤ w) → w < 16777216 → y ≡ name_found ns s (w % 4096) → y.known ≡ word_known ns s w
+  pub one_found : {y : Option FoundName} → (w < 4096) ⊎ (8192 ≤ w) → w < 16777216 → y ≡ name_found ns s (w % 4096) → is_some y ≡ word_known ns s w
   one_found names h k = rw (⊎_elim (λ l. known-name l) (λ l. known-bit l h) names, ← k)
 
   pub fits_byte : 4096 ≤ w → w < 8192 → word_fits ns s w ≡ true
   unfolding word_fits
   fits_byte l h = rw (le-leb 4096 w l, lt-ltb w 8192 h)
 
-  pub fits-name : w < 4096 → word_fits ns s w ≡ eqb (name_found ns s (w % 4096)).width 1
+  pub fits-name : w < 4096 → word_fits ns s w ≡ eqb (width_in (name_found ns s (w % 4096))) 1
   unfolding word_fits
   fits-name l = rw (lt-leb 4096 w l, lt-ltb w 4096 l)
 
-  pub fits-bit : 8192 ≤ w → w < 16777216 → word_fits ns s w ≡ ltb (w / 8192 - 1) (name_found ns s (w % 4096)).width
+  pub fits-bit : 8192 ≤ w → w < 16777216 → word_fits ns s w ≡ ltb (w / 8192 - 1) (width_in (name_found ns s (w % 4096)))
   unfolding word_fits
   fits-bit l h = rw (le-leb 4096 w (omega arith), le-ltb w 8192 l, le-ltb w 4096 (omega arith), lt-ltb w 16777216 h)
 
-  pub fits-alike : 16777216 ≤ w → word_fits ns s w ≡ pick ((name_found ns s ((w - 16777216) / 4096)).known && (name_found ns s (w % 4096)).known) (eqb (name_found ns s ((w - 16777216) / 4096)).width (name_found ns s (w % 4096)).width) false
+  pub fits-alike : 16777216 ≤ w → word_fits ns s w ≡ pick ((is_some (name_found ns s ((w - 16777216) / 4096))) && (is_some (name_found ns s (w % 4096)))) (eqb (width_in (name_found ns s ((w - 16777216) / 4096))) (width_in (name_found ns s (w % 4096)))) false
   unfolding word_fits
   fits-alike l = rw (le-leb 4096 w (omega arith), le-ltb w 8192 (omega arith), le-ltb w 4096 (omega arith), le-ltb w 16777216 l)
 
-  -- two names compared, both found, or one of them not
-  pub alike-found : {x y : FoundName} → 16777216 ≤ w → x ≡ name_found ns s ((w - 16777216) / 4096) → y ≡ name_found ns s (w % 4096) → x.known ≡ true → y.known ≡ true → eqb x.width y.width ≡ word_fits ns s w
-  alike-found l e k f g = rw (fits-alike l, ← e, ← k, f, g)
+  -- the names of a word found, the right one first
+  module _ {y : Option FoundName} (k : y ≡ name_found ns s (w % 4096)) where
+    pub right-missing : (w < 4096) ⊎ (8192 ≤ w) → y ≡ None → false ≡ word_fits ns s w
+    right-missing names e = by (dec_lt w 4096) (dec_lt w 16777216)
+      where
+        none : name_found ns s (w % 4096) ≡ None
+        none = sym k ∙ e
 
-  pub left-missing : {x : FoundName} → 16777216 ≤ w → x ≡ name_found ns s ((w - 16777216) / 4096) → x.known ≡ false → false ≡ word_fits ns s w
-  left-missing l e f = rw (fits-alike l, ← e, f)
+        by : Dec (w < 4096) → Dec (w < 16777216) → false ≡ word_fits ns s w
+        by (yes l) m = rw (fits-name l, none)
+        by (no l) (yes m) = rw (fits-bit (omega (arith, names)) m, none) (sym (le-ltb (w / 8192 - 1) 0 (omega arith)))
+        by (no l) (no m) = rw (fits-alike (omega arith), none) (sym (and_none (is_some (name_found ns s ((w - 16777216) / 4096))) _))
 
-  pub right-missing : {x y : FoundName} → 16777216 ≤ w → x ≡ name_found ns s ((w - 16777216) / 4096) → y ≡ name_found ns s (w % 4096) → x.known ≡ true → y.known ≡ false → false ≡ word_fits ns s w
-  right-missing l e k f g = rw (fits-alike l, ← e, ← k, f, g)
+    module _ {found : FoundName} (e : y ≡ Some found) where
+      pub name-found : w < 4096 → eqb found.width 1 ≡ word_fits ns s w
+      name-found l = rw (fits-name l, ← k, e)
 
--- ---- the words one after the other
-module _ (test : ℕ → Bool) (words : List ℕ) (n i : ℕ) (h : n ≤ length words) where
-  pub words-not : {t : Bool} → i < n → t ≡ test (get_or words i 0) → t ≡ false → all_words test (drop i (take n words)) ≡ false
-  unfolding all_words
-  words-not l e f =
-      let k : i < length (take n words) = rw (length-take-le n words h) l in
-      rw (drop-cons (take n words) i 0 k, get_or-take n words i 0 l, ← e, f)
+      pub bit-found : 8192 ≤ w → w < 16777216 → ltb (w / 8192 - 1) found.width ≡ word_fits ns s w
+      bit-found l h = rw (fits-bit l h, ← k, e)
 
-  pub words_more : {t : Bool} → i < n → t ≡ test (get_or words i 0) → t ≡ true → all_words test (drop i (take n words)) ≡ all_words test (drop (i + 1) (take n words))
-  unfolding all_words
-  words_more l e f =
-      let k : i < length (take n words) = rw (length-take-le n words h) l in
-      rw (drop-cons (take n words) i 0 k, get_or-take n words i 0 l, ← e, f, add-one)
+      -- two names compared
+      module _ (l : 16777216 ≤ w) {x : Option FoundName} (h : x ≡ name_found ns s ((w - 16777216) / 4096)) where
+        pub left-missing : x ≡ None → false ≡ word_fits ns s w
+        left-missing f = rw (fits-alike l, ← h, f)
 
-  pub words_end : n ≤ i → all_words test (drop i (take n words)) ≡ true
-  unfolding all_words
-  words_end l =
-      let k : length (take n words) ≤ i = rw (length-take-le n words h) l in
-      rw (drop_of_length-le (take n words) k)
+        pub alike-found : {left : FoundName} → x ≡ Some left → eqb left.width found.width ≡ word_fits ns s w
+        alike-found f = rw (fits-alike l, ← h, ← k, f, e)
 
 -- ---- the words of a tree
 -- the bytes of a tree's words are bytes
@@ -179,31 +180,19 @@ cut-bit i w h = go (dec_lt i w)
     go (yes l) = lt-ltb (min i 16) w (omega arith) ∙ sym (lt-ltb i w l)
     go (no l) = le-ltb (min i 16) w (omega arith) ∙ sym (le-ltb i w (omega arith))
 
-pub found_narrow : (n : Bytes) (ns : List Declared) → EachNarrow ns → (look_up_name n ns).width ≤ 16
+pub found_narrow : (n : Bytes) (ns : List Declared) → EachNarrow ns → (width_in (look_up_name n ns)) ≤ 16
 unfolding look_up_name
 found_narrow n [] h = omega arith
 found_narrow n (d ∷ ds) h = go (same n d.name) refl (found_narrow n ds h.1)
   where
-    go : (t : Bool) → same n d.name ≡ t → (look_up_name n ds).width ≤ 16 → (look_up_name n (d ∷ ds)).width ≤ 16
+    go : (t : Bool) → same n d.name ≡ t → (width_in (look_up_name n ds)) ≤ 16 → (width_in (look_up_name n (d ∷ ds))) ≤ 16
     go true e i = rw (e, look_up_name) h.0
     go false e i = rw (e, look_up_name) i
 
 -- a name that is not found has no width, so what a width passes, and 0 does not, tells that it is found
-missing-none : (n : Bytes) (ns : List Declared) → (look_up_name n ns).known ≡ false → (look_up_name n ns).width ≡ 0
-unfolding look_up_name
-missing-none n [] h = refl
-missing-none n (d ∷ ds) h = go (same n d.name) refl h (missing-none n ds)
-  where
-    go : (t : Bool) → same n d.name ≡ t → (look_up_name n (d ∷ ds)).known ≡ false → ((look_up_name n ds).known ≡ false → (look_up_name n ds).width ≡ 0) → (look_up_name n (d ∷ ds)).width ≡ 0
-    go true e k ih = let z : true ≡ false = rw (look_up_name, e) at k in let y : ◌≡◌ {A = ℕ} 0 1 = cc in absurd (omega arith)
-    go false e k ih = rw (look_up_name, e) (ih (rw (look_up_name, e) at k))
-
-found_too : (test : ℕ → Bool) (f : FoundName) → test 0 ≡ false → (f.known ≡ false → f.width ≡ 0) → test f.width ≡ pick f.known (test f.width) false
-found_too test f z h = go f.known refl
-  where
-    go : (t : Bool) → f.known ≡ t → test f.width ≡ pick t (test f.width) false
-    go true e = refl
-    go false e = rw (h e) z
+found_too : (test : ℕ → Bool) (f : Option FoundName) → test 0 ≡ false → test (width_in f) ≡ pick (is_some f) (test (width_in f)) false
+found_too test None z = z
+found_too test (Some f) z = refl
 
 -- what two formulas pass by both tests, each passes by both
 both_pass : (k f k2 f2 : Bool) → pick (pick k k2 false) (pick f f2 false) false ≡ pick (pick k f false) (pick k2 f2 false) false
@@ -237,11 +226,11 @@ module _ (ns : List Declared) (s : Bytes) where
     unfolding known
     tests-known =
         record {
-          at_name = λ p n i. known-name ns s (name_word p n) (word_small p n i) ∙ ap (λ (f : FoundName). f.known) (found-alone p n i);
+          at_name = λ p n i. known-name ns s (name_word p n) (word_small p n i) ∙ ap (λ (f : Option FoundName). is_some f) (found-alone p n i);
           at-bit = λ p n k i.
-              known-bit ns s (bit_word p n k) (bit_word-large p n k) (bit_word-small p n k (word_small p n i)) ∙ ap (λ (f : FoundName). f.known) (found-bit p n k i);
+              known-bit ns s (bit_word p n k) (bit_word-large p n k) (bit_word-small p n k (word_small p n i)) ∙ ap (λ (f : Option FoundName). is_some f) (found-bit p n k i);
           at-alike = λ p n q m i k.
-              known_alike ns s (alike_word p n q m) (alike_word-large p n q m) ∙ rw (found_left p n q m i k, found_right p n q m i k) (pick-and (found_at ns s p n).known (found_at ns s q m).known);
+              known_alike ns s (alike_word p n q m) (alike_word-large p n q m) ∙ rw (found_left p n q m i k, found_right p n q m i k) (pick-and (is_some (found_at ns s p n)) (is_some (found_at ns s q m)));
           at_byte = λ b h. known-byte ns s (byte_word b) (byte_word-large b) (byte_word-small b h);
           of_bit = λ b. refl;
           of_not = λ e. refl;
@@ -253,9 +242,9 @@ module _ (ns : List Declared) (s : Bytes) where
     unfolding known fits
     tests-fits narrow =
         record {
-          at_name = λ p n i. fits-name ns s (name_word p n) (word_small p n i) ∙ rw (found-alone p n i) (found_too (λ w. eqb w 1) (found_at ns s p n) refl (missing-none (take n (drop p s)) ns));
+          at_name = λ p n i. fits-name ns s (name_word p n) (word_small p n i) ∙ rw (found-alone p n i) (found_too (λ w. eqb w 1) (found_at ns s p n) refl);
           at-bit = λ p n k i.
-              fits-bit ns s (bit_word p n k) (bit_word-large p n k) (bit_word-small p n k (word_small p n i)) ∙ rw (found-bit p n k i, bit_word-bit p n k (word_small p n i)) (cut-bit k (found_at ns s p n).width (found_narrow (take n (drop p s)) ns narrow)) ∙ found_too (λ w. ltb k w) (found_at ns s p n) (le-ltb k 0 (omega arith)) (missing-none (take n (drop p s)) ns);
+              fits-bit ns s (bit_word p n k) (bit_word-large p n k) (bit_word-small p n k (word_small p n i)) ∙ rw (found-bit p n k i, bit_word-bit p n k (word_small p n i)) (cut-bit k (width_in (found_at ns s p n)) (found_narrow (take n (drop p s)) ns narrow)) ∙ found_too (λ w. ltb k w) (found_at ns s p n) (le-ltb k 0 (omega arith));
           at-alike = λ p n q m i k. fits-alike ns s (alike_word p n q m) (alike_word-large p n q m) ∙ rw (found_left p n q m i k, found_right p n q m i k);
           at_byte = λ b h. fits_byte ns s (byte_word b) (byte_word-large b) (byte_word-small b h);
           of_bit = λ b. refl;
@@ -265,18 +254,13 @@ module _ (ns : List Declared) (s : Bytes) where
         }
 
   -- ---- a field as the formula's reader answers it
-  unformed : (t : Parsed) {f : Formula} → f ≡ answer_of t → f.formed ≡ false → Faulty NotFormula ≡ judged_tree ns s t
-  unfolding answer_of judged_tree
-  unformed none e k = refl
-  unformed (tree x) e k = let y : true ≡ false = sym (ap (λ (r : Formula). r.formed) e) ∙ k in let z : ◌≡◌ {A = ℕ} 0 1 = cc in absurd (omega arith)
-
   -- a formula: its depth, its words, its names, their widths
   pub record Formed (f : Formula) : Type 0 where
-    pub depth : 16 < f.depth → Faulty TooDeep ≡ judged_formula ns s
-    pub room : f.count ≤ length f.words
-    pub fine : true ≡ all_words (word_fits ns s) (take f.count f.words) → f.depth ≤ 16 → EachNarrow ns → Fine ≡ judged_formula ns s
-    pub widths : false ≡ all_words (word_fits ns s) (take f.count f.words) → true ≡ all_words (word_known ns s) (take f.count f.words) → f.depth ≤ 16 → EachNarrow ns → Faulty WrongWidth ≡ judged_formula ns s
-    pub unknown : false ≡ all_words (word_known ns s) (take f.count f.words) → f.depth ≤ 16 → Faulty UnknownName ≡ judged_formula ns s
+    pub depth : 16 < f.depth → Err TooDeep ≡ judged_formula ns s
+    pub few : f.count ≤ 255
+    pub fine : true ≡ all_words (word_fits ns s) (take f.count f.words) → f.depth ≤ 16 → EachNarrow ns → (Ok tt) ≡ judged_formula ns s
+    pub widths : false ≡ all_words (word_fits ns s) (take f.count f.words) → true ≡ all_words (word_known ns s) (take f.count f.words) → f.depth ≤ 16 → EachNarrow ns → Err WrongWidth ≡ judged_formula ns s
+    pub unknown : false ≡ all_words (word_known ns s) (take f.count f.words) → f.depth ≤ 16 → Err UnknownName ≡ judged_formula ns s
 
   module _ (x : Tree) (e : tree_of s ≡ tree x) where
     of_words : {t : Bool} (word : ℕ → Bool) (all : Tree → Bool) → Tests s word all → t ≡ all_words word (take (length (postfix x)) (padded (postfix x))) → all x ≡ t
@@ -284,13 +268,13 @@ module _ (ns : List Declared) (s : Bytes) where
     of_words word all i k =
         rw (k, take-append_seam (postfix x) (replicate (255 - length (postfix x)) 0)) (sym (words-tree s word all i x (in_field s x e)))
 
-    of_tree : Formed (answer_of (tree x))
-    unfolding answer_of judged_tree padded
+    of_tree : Formed (record { depth = depth_of x; count = length (postfix x); words = padded (postfix x) })
+    unfolding judged_tree padded
     of_tree =
         let short = field-short s x e in
         record {
           depth = λ l. rw (e, lt-ltb 16 (depth_of x) l);
-          room = omega (arith, length-append (postfix x) (replicate (255 - length (postfix x)) 0));
+          few = words-few s x e;
           fine = λ q l narrow.
               let b = pick-both (known ns s x) (fits ns s x) (of_words (word_fits ns s) (λ e. pick (known ns s e) (fits ns s e) false) (tests-fits short narrow) q) in
               rw (e, le-ltb 16 (depth_of x) l, b.0, b.1);
@@ -301,15 +285,23 @@ module _ (ns : List Declared) (s : Bytes) where
           unknown = λ k l. rw (e, le-ltb 16 (depth_of x) l, of_words (word_known ns s) (known ns s) (tests-known short) k);
         }
 
-  formed : (t : Parsed) → tree_of s ≡ t → {f : Formula} → f ≡ answer_of t → f.formed ≡ true → Formed f
+  formed : (t : Parsed) → tree_of s ≡ t → {f : Formula} → Some f ≡ answer_of t → Formed f
   unfolding answer_of
-  formed none q e k = let y : false ≡ true = sym (ap (λ (r : Formula). r.formed) e) ∙ k in let z : ◌≡◌ {A = ℕ} 0 1 = cc in absurd (omega arith)
-  formed (tree x) q e k = rw e (of_tree x q)
+  formed none q e = let z : ◌≡◌ {A = ℕ} 0 1 = cc in absurd (omega arith)
+  formed (tree x) q {f} e =
+      let is : f ≡ record { depth = depth_of x; count = length (postfix x); words = padded (postfix x) } = cc in
+      subst Formed (sym is) (of_tree x q)
 
-  pub judge_unformed : {f : Formula} → f ≡ formula_of s → f.formed ≡ false → Faulty NotFormula ≡ judged_formula ns s
-  unfolding formula_of
-  judge_unformed e k = unformed (tree_of s) e k
+  unformed : (t : Parsed) → None ≡ answer_of t → Err NotFormula ≡ judged_tree ns s t
+  unfolding answer_of judged_tree
+  unformed none e = refl
+  unformed (tree x) e = let z : ◌≡◌ {A = ℕ} 0 1 = cc in absurd (omega arith)
 
-  pub judge_formed : {f : Formula} → f ≡ formula_of s → f.formed ≡ true → Formed f
-  unfolding formula_of
-  judge_formed e k = formed (tree_of s) refl e k
+  module _ {o : Option Formula} (h : o ≡ formula_of s) where
+    pub judge_unformed : o ≡ None → Err NotFormula ≡ judged_formula ns s
+    unfolding formula_of
+    judge_unformed k = unformed (tree_of s) (sym k ∙ h)
+
+    pub judge_formed : {f : Formula} → o ≡ Some f → Formed f
+    unfolding formula_of
+    judge_formed k = formed (tree_of s) refl (sym k ∙ h)

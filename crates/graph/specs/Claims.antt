@@ -2,7 +2,7 @@
 -- formulas stand where the checked graph says, an edge's on its own line; its vertices and names are known; and each
 -- formula is of the grammar, at most 16 deep, and means what its tree does. And what look_up_name claims. Assumes
 -- nothing.
-use Rattle.std.specs.Prelude.{ℕ, ◌+◌, ◌-◌, ◌%◌, ◌≤◌, ◌<◌, ◌≡◌, Bool, true, false, cond, eqb, length, get_or, take, drop}
+use Rattle.std.specs.Prelude.{ℕ, ◌+◌, ◌-◌, ◌%◌, ◌≤◌, ◌<◌, ◌≡◌, Bool, true, Option, Some, None, cond, eqb, length, get_or, take, drop}
 use Prim.Native.Char.{code}
 use mathlib.Core.List.{List, [], ◌∷◌, ◌++◌, map, Memᴰ}
 use Rattle.text.specs.Lines.{StartsLine}
@@ -20,9 +20,9 @@ use Rattle.graph.specs.declared.CheckedGraph.{CheckedGraph}
 
 -- "Whoever looks up a name now receives its first place and its width": those of the first that has the name; and where
 -- none has, it is unknown
-pub record LookUpMeans (n : Bytes) (ds : List Declared) (r : FoundName) : Type 0 where
-  pub found : (before after : List Declared) (d : Declared) → ds ≡ before ++ (d ∷ after) → d.name ≡ n → ((e : Declared) → Memᴰ e before → e.name ≡ n → ⊥) → r ≡ record { known = true; place = d.place; width = d.width }
-  pub missing : ((e : Declared) → Memᴰ e ds → e.name ≡ n → ⊥) → r ≡ record { known = false; place = 0; width = 0 }
+pub record LookUpMeans (n : Bytes) (ds : List Declared) (r : Option FoundName) : Type 0 where
+  pub found : (before after : List Declared) (d : Declared) → ds ≡ before ++ (d ∷ after) → d.name ≡ n → ((e : Declared) → Memᴰ e before → e.name ≡ n → ⊥) → r ≡ Some (record { place = d.place; width = d.width })
+  pub missing : ((e : Declared) → Memᴰ e ds → e.name ≡ n → ⊥) → r ≡ None
 
 -- the n bytes of the text from p on are x
 pub record FormulaAt (text : Bytes) (p n : ℕ) (x : Bytes) : Type 0 where

@@ -1,6 +1,6 @@
 -- What the contract of read_graph claims of an edge's formulas, by what a formula is and what it means, without any
 -- reader or look-up: which edges are refused with 7, 8, 9 and 19, and which are taken. Assumes nothing.
-use Rattle.std.specs.Prelude.{ℕ, ◌≤◌, ◌<◌, max, ◌≡◌, true, cond, length, get_or, take, drop}
+use Rattle.std.specs.Prelude.{ℕ, ◌≤◌, ◌<◌, max, ◌≡◌, true, Result, cond, length, get_or, take, drop}
 use Prim.Native.Char.{code}
 use mathlib.Core.List.{List, [], ◌∷◌, ◌++◌, Memᴰ}
 use Rattle.text.specs.Lines.{StartsLine}
@@ -12,7 +12,8 @@ use Rattle.graph.specs.Reading.{accepted, graph_of}
 use Rattle.graph.specs.Meaning.{Named, Means}
 use Rattle.graph.specs.Claims.{IsField}
 use Rattle.graph.specs.ModeClaims.{IsMark, RefusedHere}
-use Rattle.graph.specs.declared.GraphRead.{GraphRead}
+use Rattle.graph.specs.declared.CheckedGraph.{CheckedGraph}
+use Rattle.graph.specs.declared.Cause.{Cause}
 
 -- these bytes are the name of a signal or a constant
 pub record Known (ss cs : List Name) (n : Bytes) : Type 0 where
@@ -71,7 +72,7 @@ pub record Taken (text : Bytes) (g : Graph) (from to : Bytes) (mark : ℕ) (a c 
   pub consequent_is : edge.consequent_text ≡ c
 
 -- THE CLAIM of the answer r to a text, with an edge's line after the text of a graph g
-pub record FormulaMeans (text : Bytes) (r : GraphRead) : Type 0 where
+pub record FormulaMeans (text : Bytes) (r : Result CheckedGraph Cause) : Type 0 where
   -- "a formula of any wrong form is 7"
   pub unformed : (before : Bytes) (g : Graph) (a c : Bytes) → EdgeNext text before g a c → ((ea ec : Tree) → IsFormula a ea → IsFormula c ec → ⊥) → length text ≤ 32768 → RefusedHere before 7 r
   -- depth over 16 is 8

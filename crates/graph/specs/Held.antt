@@ -1,14 +1,13 @@
 -- What reading a graph text answers: the checked graph by places in the text. Record k of the text, from
 -- 0, is its line k + 1, and the mode, signals, constants, vertices and edges follow one another, so each
 -- array is given by the lines of its records. Assumes nothing.
-use Rattle.std.specs.Prelude.{ℕ, zero, suc, ◌+◌, ◌*◌, ◌-◌, ◌/◌, ◌%◌, Bool, false, List, [], ◌∷◌, ◌++◌, length, take, drop, replicate}
+use Rattle.std.specs.Prelude.{ℕ, zero, suc, ◌+◌, ◌*◌, ◌-◌, ◌/◌, ◌%◌, Bool, false, List, [], ◌∷◌, ◌++◌, length, take, drop, replicate, Result, Ok, Err}
 use Rattle.assertion.specs.Graph.{Bytes, Name, Edge, Graph, signal_bits, constant_bits, is_terminal}
 use Rattle.graph.specs.Pieces.{up_to, end_at, piece_at, Declared}
-use Rattle.graph.specs.Reading.{mode_lines, Outcome, refused, accepted, nothing, graph_of}
+use Rattle.graph.specs.Reading.{mode_lines, Outcome, refused, accepted, graph_of}
 use Rattle.graph.specs.declared.Arc.{Arc}
 use Rattle.graph.specs.declared.CheckedGraph.{CheckedGraph}
-use Rattle.graph.specs.declared.ReadOutcome.TheVariants.{Checked, Refused}
-use Rattle.graph.specs.declared.GraphRead.{GraphRead}
+use Rattle.graph.specs.declared.Cause.{Cause}
 
 -- ---- places: a text is cut at LF (10), a line at tabs (9)
 -- where line n of a text starts, n from 0, and its bytes
@@ -98,10 +97,10 @@ held_as t text g =
 unfoldable pub held_of : Bytes → Graph → CheckedGraph
 held_of text g = held_as (is_terminal g) text g
 
--- ---- the answer: a refused text has the graph of no line
-unfoldable pub answer_of : Bytes → Outcome → GraphRead
-answer_of text (accepted g) = record { outcome = Checked; graph = held_of text g }
-answer_of text (refused cause) = record { outcome = Refused cause; graph = held_of text nothing }
+-- ---- the answer
+unfoldable pub answer_of : Bytes → Outcome → Result CheckedGraph Cause
+answer_of text (accepted g) = Ok (held_of text g)
+answer_of text (refused cause) = Err cause
 
-unfoldable pub read_of : Bytes → GraphRead
+unfoldable pub read_of : Bytes → Result CheckedGraph Cause
 read_of text = answer_of text (graph_of text)

@@ -1,7 +1,7 @@
 -- What the contract of read_graph claims of `M` lines and terminal edges, by the bytes of the text. `graph_of` stands
 -- here for the graph of a text, or its refusal, where two texts are compared and where the answer is tied, by `held_of`
 -- too, to the graph of which the other theorems speak; how it reads an `M` line or a mark is not used. Assumes nothing.
-use Rattle.std.specs.Prelude.{ℕ, ◌+◌, ◌-◌, ◌≤◌, ◌<◌, ◌≡◌, ◌⊎◌, true, [], ◌∷◌, ◌++◌, length, get_or, drop}
+use Rattle.std.specs.Prelude.{ℕ, ◌+◌, ◌-◌, ◌≤◌, ◌<◌, ◌≡◌, ◌⊎◌, true, Result, Ok, Err, [], ◌∷◌, ◌++◌, length, get_or, drop}
 use Prim.Native.Char.{code}
 use Rattle.text.specs.Lines.{StartsLine}
 use Rattle.assertion.specs.Graph.{Bytes, Graph, signal_bits, constant_bits}
@@ -14,8 +14,6 @@ use Rattle.graph.specs.declared.Fault.{Fault}
 use Rattle.graph.specs.declared.Cause.{Cause}
 use Rattle.graph.specs.declared.Cause.TheVariants.{FaultyLine, NoVertex}
 use Rattle.graph.specs.declared.CheckedGraph.{CheckedGraph}
-use Rattle.graph.specs.declared.ReadOutcome.TheVariants.{Checked, Refused}
-use Rattle.graph.specs.declared.GraphRead.{GraphRead}
 
 -- ---- `M` lines
 -- the words
@@ -35,16 +33,16 @@ pub data FirstLine (text : Bytes) : Mode → Type 0 where
   silent : ((word after : Bytes) → ModeLine text [] word after → ⊥) → FirstLine text Unsaid
 
 -- the answer refuses the line after these bytes with this number
-pub record RefusedHere (before : Bytes) (number : ℕ) (r : GraphRead) : Type 0 where
+pub record RefusedHere (before : Bytes) (number : ℕ) (r : Result CheckedGraph Cause) : Type 0 where
   pub cause : Cause
-  pub outcome : r.outcome ≡ Refused cause
+  pub outcome : r ≡ Err cause
   pub refusal : refusal_of cause ≡ record { number = number; line = breaks before + 1 }
 
 -- the answer refuses the line after these bytes with this number; or these bytes by themselves are refused for one of
 -- their lines, and the answer refuses that line alike
-pub data RefusedAfter (before : Bytes) (number : ℕ) (r : GraphRead) : Type 0 where
-  here : (cause : Cause) → r.outcome ≡ Refused cause → refusal_of cause ≡ record { number = number; line = breaks before + 1 } → RefusedAfter before number r
-  earlier : (f : Fault) (n : ℕ) → n ≤ breaks before → graph_of before ≡ refused (FaultyLine f n) → r.outcome ≡ Refused (FaultyLine f n) → RefusedAfter before number r
+pub data RefusedAfter (before : Bytes) (number : ℕ) (r : Result CheckedGraph Cause) : Type 0 where
+  here : (cause : Cause) → r ≡ Err cause → refusal_of cause ≡ record { number = number; line = breaks before + 1 } → RefusedAfter before number r
+  earlier : (f : Fault) (n : ℕ) → n ≤ breaks before → graph_of before ≡ refused (FaultyLine f n) → r ≡ Err (FaultyLine f n) → RefusedAfter before number r
 
 -- the outcome of a text with an `M` line before it: no other line is judged otherwise, and it counts as a line
 pub data Moved (m : Mode) : Outcome → Outcome → Type 0 where
@@ -82,25 +80,26 @@ pub record EdgeChosen (text : Bytes) (g : CheckedGraph) (i : ℕ) : Type 0 where
   pub chosen : Chosen text g i → (get_or g.arcs i no_arc).terminal ≡ true
 
 -- a graph is answered: it is accepted, and given with its mode, its counts and its edges by their places
-pub record Answered (text : Bytes) (g : Graph) (r : GraphRead) : Type 0 where
-  pub checked : r.outcome ≡ Checked
-  pub held : r.graph ≡ held_of text g
-  pub mode : r.graph.mode ≡ g.mode
-  pub named : r.graph.named ≡ length g.signals + length g.constants
-  pub signals : r.graph.signals ≡ signal_bits g
-  pub constants : r.graph.constants ≡ constant_bits g
-  pub vertices : r.graph.vertices ≡ length g.vertices
-  pub edges : r.graph.edges ≡ length g.edges
+pub record Answered (text : Bytes) (g : Graph) (r : Result CheckedGraph Cause) : Type 0 where
+  pub graph : CheckedGraph
+  pub checked : r ≡ Ok graph
+  pub held : graph ≡ held_of text g
+  pub mode : graph.mode ≡ g.mode
+  pub named : graph.named ≡ length g.signals + length g.constants
+  pub signals : graph.signals ≡ signal_bits g
+  pub constants : graph.constants ≡ constant_bits g
+  pub vertices : graph.vertices ≡ length g.vertices
+  pub edges : graph.edges ≡ length g.edges
 
 -- THE CLAIM of the answer r to a text
-pub record ModeMeans (text : Bytes) (r : GraphRead) : Type 0 where
+pub record ModeMeans (text : Bytes) (r : Result CheckedGraph Cause) : Type 0 where
   -- what is claimed of the graph of the text is claimed of the answer
   pub accepts : (g : Graph) → graph_of text ≡ accepted g → Answered text g r
-  pub refuses : (cause : Cause) → graph_of text ≡ refused cause → r.outcome ≡ Refused cause
+  pub refuses : (cause : Cause) → graph_of text ≡ refused cause → r ≡ Err cause
   -- the bytes of an `M` line count
-  pub too_long : 32768 < length text → (cause : Cause) × (r.outcome ≡ Refused cause) × (refusal_of cause ≡ record { number = 1; line = 0 })
-  pub first_line_is : r.outcome ≡ Checked → FirstLine text r.graph.mode
-  pub edges-chosen : r.outcome ≡ Checked → (i : ℕ) → i < r.graph.edges → EdgeChosen text r.graph i
+  pub too_long : 32768 < length text → (cause : Cause) × (r ≡ Err cause) × (refusal_of cause ≡ record { number = 1; line = 0 })
+  pub first_line_is : (graph : CheckedGraph) → r ≡ Ok graph → FirstLine text graph.mode
+  pub edges-chosen : (graph : CheckedGraph) → r ≡ Ok graph → (i : ℕ) → i < graph.edges → EdgeChosen text graph i
   -- "Another `M` line is 3; another word is 2"
   pub another : (before word after : Bytes) (m : Mode) → ModeLine text before word after → ModeWord word m → (before ≡ [] → ⊥) → length text ≤ 32768 → RefusedAfter before 3 r
   pub other_word : (before word after : Bytes) → ModeLine text before word after → ((m : Mode) → ModeWord word m → ⊥) → length text ≤ 32768 → RefusedAfter before 2 r
@@ -108,6 +107,6 @@ pub record ModeMeans (text : Bytes) (r : GraphRead) : Type 0 where
   pub no_word : (before after : Bytes) → StartsLine before → text ≡ before ++ (code "M" ∷ code "\n" ∷ after) → length text ≤ 32768 → RefusedAfter before 2 r
   pub no_lf : (before rest : Bytes) → StartsLine before → text ≡ before ++ (code "M" ∷ rest) → ((left right : Bytes) → rest ≡ left ++ (code "\n" ∷ right) → ⊥) → length text ≤ 32768 → RefusedAfter before 2 r
   -- a mark never decides what is refused
-  pub mark-free : (before from to rest : Bytes) (m other : ℕ) → StartsLine before → IsField from → IsField to → IsMark m → IsMark other → text ≡ edge_text before from to rest m → length text ≤ 32768 → (cause : Cause) → graph_of (edge_text before from to rest other) ≡ refused cause → r.outcome ≡ Refused cause
+  pub mark-free : (before from to rest : Bytes) (m other : ℕ) → StartsLine before → IsField from → IsField to → IsMark m → IsMark other → text ≡ edge_text before from to rest m → length text ≤ 32768 → (cause : Cause) → graph_of (edge_text before from to rest other) ≡ refused cause → r ≡ Err cause
   -- the other lines are judged as without it
   pub unseen : (word after : Bytes) (m : Mode) → ModeLine text [] word after → ModeWord word m → FirstLine after Unsaid → length text ≤ 32768 → Moved m (graph_of after) (graph_of text)

@@ -1,8 +1,7 @@
 -- A text cut at a byte: at LF into its lines, a line at tabs into its fields; and a name looked up: a vertex
 -- among vertices, and a signal or constant among those declared. Assumes nothing.
-use Rattle.std.specs.Prelude.{ℕ, suc, ◌+◌, Bool, true, false, List, [], ◌∷◌, eqb, ltb, length, take, drop}
+use Rattle.std.specs.Prelude.{ℕ, suc, ◌+◌, Bool, true, false, Option, Some, None, List, [], ◌∷◌, eqb, ltb, length, take, drop}
 use Rattle.assertion.specs.Graph.{Bytes, Name}
-use Rattle.graph.specs.declared.Found.{Found}
 use Rattle.graph.specs.declared.FoundName.{FoundName}
 
 -- a byte in front of the first piece
@@ -40,9 +39,9 @@ unfoldable pub place_of : Bytes → List Bytes → ℕ
 place_of n [] = 0
 place_of n (m ∷ ms) = elim (same n m) [ true ↦ 0 | false ↦ suc (place_of n ms) ]
 
--- what looking a vertex up answers
-unfoldable pub look_up : Bytes → List Bytes → Found
-look_up n ms = record { known = ltb (place_of n ms) (length ms); place = place_of n ms }
+-- what looking a vertex up answers: its place, where it is there
+unfoldable pub look_up : Bytes → List Bytes → Option ℕ
+look_up n ms = elim (ltb (place_of n ms) (length ms)) [ true ↦ Some (place_of n ms) | false ↦ None ]
 
 -- a signal or a constant: its name, and the run of bits that it stands for, by the first place and the width
 pub record Declared : Type 0 where
@@ -56,6 +55,15 @@ placed p [] = []
 placed p (x ∷ xs) = record { name = x.name; place = p; width = x.width } ∷ placed (p + x.width) xs
 
 -- "Whoever looks up a name now receives its first place and its width"
-unfoldable pub look_up_name : Bytes → List Declared → FoundName
-look_up_name n [] = record { known = false; place = 0; width = 0 }
-look_up_name n (d ∷ ds) = elim (same n d.name) [ true ↦ record { known = true; place = d.place; width = d.width } | false ↦ look_up_name n ds ]
+unfoldable pub look_up_name : Bytes → List Declared → Option FoundName
+look_up_name n [] = None
+look_up_name n (d ∷ ds) = elim (same n d.name) [ true ↦ Some (record { place = d.place; width = d.width }) | false ↦ look_up_name n ds ]
+
+-- the place and the width that it receives; 0 for a name that is not there
+abbrev pub place_in : Option FoundName → ℕ
+place_in None = 0
+place_in (Some found) = found.place
+
+abbrev pub width_in : Option FoundName → ℕ
+width_in None = 0
+width_in (Some found) = found.width

@@ -1,6 +1,6 @@
 -- The graph of a text, or why it is refused: over 32,768 bytes; then the first faulty line, in it the
 -- lowest number; then no vertex. Assumes nothing.
-use Rattle.std.specs.Prelude.{ℕ, ◌+◌, ◌-◌, Bool, true, false, ◌&&◌, List, [], ◌∷◌, ◌++◌, eqb, ltb, leb, length, take, drop}
+use Rattle.std.specs.Prelude.{Option, is_some, Result, Ok, Err, ℕ, ◌+◌, ◌-◌, Bool, true, false, ◌&&◌, List, [], ◌∷◌, ◌++◌, eqb, ltb, leb, length, take, drop}
 use Rattle.text.specs.Quoted.{byte}
 use Rattle.text.specs.declared.Refusal.{Refusal}
 use Rattle.formula.specs.Classes.{pick}
@@ -10,13 +10,11 @@ use Rattle.assertion.specs.Graph as G
 use Rattle.assertion.specs.Graph.{Bytes, Run, signals_from, constants_from, Expr, Name, Edge, Graph, signal_bits, constant_bits, truth, neg, conj, disj, xor, same}
 use Rattle.assertion.specs.declared.Mode.{Mode}
 use Rattle.assertion.specs.declared.Mode.TheVariants.{Unsaid, Terminal, Strong}
-use Rattle.graph.specs.Pieces.{split, look_up, Declared, placed, look_up_name}
+use Rattle.graph.specs.Pieces.{split, place_of, look_up, Declared, placed, look_up_name, place_in, width_in}
 use Rattle.graph.specs.Records.{Record, shapeless, mode, signal, constant, vertex, edge, record_of}
 use Rattle.graph.specs.declared.Fault.{Fault}
 use Rattle.graph.specs.declared.Fault.TheVariants.{WrongShape, WrongOrder, TooMany, NameRepeated, UnknownVertex, NotFormula, TooDeep, UnknownName, WrongWidth}
 use Rattle.graph.specs.declared.FoundName.{FoundName}
-use Rattle.graph.specs.declared.Judged.{Judged}
-use Rattle.graph.specs.declared.Judged.TheVariants.{Fine, Faulty}
 use Rattle.graph.specs.declared.Cause.{Cause}
 use Rattle.graph.specs.declared.Cause.TheVariants.{TextTooLong, FaultyLine, NoVertex}
 
@@ -45,14 +43,14 @@ abbrev pub names_of : Graph → List Declared
 names_of g = placed 0 (g.signals ++ g.constants)
 
 -- the name of n bytes from the place p of the field s on, looked up
-abbrev pub found_at : List Declared → Bytes → ℕ → ℕ → FoundName
+abbrev pub found_at : List Declared → Bytes → ℕ → ℕ → Option FoundName
 found_at ns s p n = look_up_name (take n (drop p s)) ns
 
 -- each name of a tree, given by its place in the field s, is in the list
 unfoldable pub known : List Declared → Bytes → Tree → Bool
-known ns s (name p n) = (found_at ns s p n).known
-known ns s (bit_of p n i) = (found_at ns s p n).known
-known ns s (tree.alike p n q m) = (found_at ns s p n).known && (found_at ns s q m).known
+known ns s (name p n) = is_some (found_at ns s p n)
+known ns s (bit_of p n i) = is_some (found_at ns s p n)
+known ns s (tree.alike p n q m) = is_some (found_at ns s p n) && is_some (found_at ns s q m)
 known ns s (bit b) = true
 known ns s (not e) = known ns s e
 known ns s (group e) = known ns s e
@@ -60,9 +58,9 @@ known ns s (join b e e2) = pick (known ns s e) (known ns s e2) false
 
 -- a name by itself has one bit, one bit of a name is below its width, and `==` has equal widths
 unfoldable pub fits : List Declared → Bytes → Tree → Bool
-fits ns s (name p n) = eqb (found_at ns s p n).width 1
-fits ns s (bit_of p n i) = ltb i (found_at ns s p n).width
-fits ns s (tree.alike p n q m) = eqb (found_at ns s p n).width (found_at ns s q m).width
+fits ns s (name p n) = eqb (width_in (found_at ns s p n)) 1
+fits ns s (bit_of p n i) = ltb i (width_in (found_at ns s p n))
+fits ns s (tree.alike p n q m) = eqb (width_in (found_at ns s p n)) (width_in (found_at ns s q m))
 fits ns s (bit b) = true
 fits ns s (not e) = fits ns s e
 fits ns s (group e) = fits ns s e
@@ -82,22 +80,22 @@ run_of m i = pick (ltb i m) (signals_from i) (constants_from (i - m))
 
 -- bit n of a name stands n places after its first
 unfoldable pub resolved : ℕ → List Declared → Bytes → Tree → Expr
-resolved m ns s (name p n) = symbol m (found_at ns s p n).place
-resolved m ns s (bit_of p n i) = symbol m ((found_at ns s p n).place + i)
+resolved m ns s (name p n) = symbol m (place_in (found_at ns s p n))
+resolved m ns s (bit_of p n i) = symbol m (place_in (found_at ns s p n) + i)
 resolved m ns s (tree.alike p n q k) =
-    G.alike (run_of m (found_at ns s p n).place) (run_of m (found_at ns s q k).place) (found_at ns s p n).width
+    G.alike (run_of m (place_in (found_at ns s p n))) (run_of m (place_in (found_at ns s q k))) (width_in (found_at ns s p n))
 resolved m ns s (bit b) = truth (eqb b (byte "1"))
 resolved m ns s (not e) = neg (resolved m ns s e)
 resolved m ns s (group e) = resolved m ns s e
 resolved m ns s (join b e e2) = joined b (resolved m ns s e) (resolved m ns s e2)
 
 -- not of the grammar; depth over 16; an unknown name; a wrong width; none of these
-unfoldable pub judged_tree : List Declared → Bytes → Parsed → Judged
-judged_tree ns s none = Faulty NotFormula
+unfoldable pub judged_tree : List Declared → Bytes → Parsed → Result Unit Fault
+judged_tree ns s none = Err NotFormula
 judged_tree ns s (tree e) =
-    pick (ltb 16 (depth_of e)) (Faulty TooDeep) (pick (known ns s e) (pick (fits ns s e) Fine (Faulty WrongWidth)) (Faulty UnknownName))
+    pick (ltb 16 (depth_of e)) (Err TooDeep) (pick (known ns s e) (pick (fits ns s e) (Ok tt) (Err WrongWidth)) (Err UnknownName))
 
-abbrev pub judged_formula : List Declared → Bytes → Judged
+abbrev pub judged_formula : List Declared → Bytes → Result Unit Fault
 judged_formula ns s = judged_tree ns s (tree_of s)
 
 unfoldable pub tree_expr : ℕ → List Declared → Bytes → Parsed → Expr
@@ -109,10 +107,10 @@ abbrev pub expr_of : Graph → Bytes → Expr
 expr_of g s = tree_expr (signal_bits g) (names_of g) s (tree_of s)
 
 -- of two judgements the fault of the lower number
-unfoldable pub lower : Judged → Judged → Judged
-lower Fine b = b
-lower (Faulty f) Fine = Faulty f
-lower (Faulty f) (Faulty k) = Faulty (pick (leb (fault_number f) (fault_number k)) f k)
+unfoldable pub lower : Result Unit Fault → Result Unit Fault → Result Unit Fault
+lower (Ok tt) b = b
+lower (Err f) (Ok tt) = Err f
+lower (Err f) (Err k) = Err (pick (leb (fault_number f) (fault_number k)) f k)
 
 -- ---- one record after another
 pub data Step : Type 0 where
@@ -139,7 +137,7 @@ unfoldable pub add_signal : Graph → Bytes → ℕ → Step
 add_signal g n w =
     pick (ltb 0 (length g.constants + length g.vertices + length g.edges)) (fault WrongOrder)
     (pick (ltb 63 (signal_bits g + w)) (fault TooMany)
-    (pick (look_up_name n (names_of g)).known (fault NameRepeated)
+    (pick (is_some (look_up_name n (names_of g))) (fault NameRepeated)
     (went (record { mode = g.mode; signals = g.signals ++ (sized_name n w ∷ []); constants = g.constants; vertices = g.vertices; edges = g.edges }))))
 
 -- a vertex or an edge has come already; the bits would pass 6; the name has come
@@ -147,14 +145,14 @@ unfoldable pub add_constant : Graph → Bytes → ℕ → Step
 add_constant g n w =
     pick (ltb 0 (length g.vertices + length g.edges)) (fault WrongOrder)
     (pick (ltb 6 (constant_bits g + w)) (fault TooMany)
-    (pick (look_up_name n (names_of g)).known (fault NameRepeated)
+    (pick (is_some (look_up_name n (names_of g))) (fault NameRepeated)
     (went (record { mode = g.mode; signals = g.signals; constants = g.constants ++ (sized_name n w ∷ []); vertices = g.vertices; edges = g.edges }))))
 
 unfoldable pub add_vertex : Graph → Bytes → Step
 add_vertex g n =
     pick (ltb 0 (length g.edges)) (fault WrongOrder)
     (pick (leb 64 (length g.vertices)) (fault TooMany)
-    (pick (look_up n g.vertices).known (fault NameRepeated)
+    (pick (is_some (look_up n g.vertices)) (fault NameRepeated)
     (went (record { mode = g.mode; signals = g.signals; constants = g.constants; vertices = g.vertices ++ (n ∷ []); edges = g.edges }))))
 
 -- an edge with its vertices by their places and its formulas as trees
@@ -171,9 +169,9 @@ edge_of g from to marked a c =
     }
 
 -- an edge, unless its formulas have a fault
-unfoldable pub unless_faulty : Judged → Graph → Edge → Step
-unless_faulty Fine g e = went (record { mode = g.mode; signals = g.signals; constants = g.constants; vertices = g.vertices; edges = g.edges ++ (e ∷ []) })
-unless_faulty (Faulty f) g e = fault f
+unfoldable pub unless_faulty : Result Unit Fault → Graph → Edge → Step
+unless_faulty (Ok tt) g e = went (record { mode = g.mode; signals = g.signals; constants = g.constants; vertices = g.vertices; edges = g.edges ++ (e ∷ []) })
+unless_faulty (Err f) g e = fault f
 
 -- a fault of either formula, the lower number first
 unfoldable pub judge_edge : Graph → ℕ → ℕ → Bool → Bytes → Bytes → Step
@@ -184,9 +182,9 @@ judge_edge g from to marked a c =
 unfoldable pub add_edge : Graph → Bytes → Bytes → Bool → Bytes → Bytes → Step
 add_edge g f t marked a c =
     pick (leb 128 (length g.edges)) (fault TooMany)
-    (pick (look_up f g.vertices).known
-    (pick (look_up t g.vertices).known
-    (judge_edge g (look_up f g.vertices).place (look_up t g.vertices).place marked a c)
+    (pick (is_some (look_up f g.vertices))
+    (pick (is_some (look_up t g.vertices))
+    (judge_edge g (place_of f g.vertices) (place_of t g.vertices) marked a c)
     (fault UnknownVertex))
     (fault UnknownVertex))
 

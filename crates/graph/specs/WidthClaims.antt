@@ -1,7 +1,7 @@
 -- What the contract of read_graph claims of the widths of signals and constants, by the bytes of the text: of an
 -- accepted text, each with its line, its place and its width; and which of their lines are taken, refused with 2 for
 -- the width, with 4 for the bits and with 5 for the name; and that new vertices are taken. Assumes nothing.
-use Rattle.std.specs.Prelude.{ℕ, ◌+◌, ◌≤◌, ◌<◌, ◌≡◌, true, length, take}
+use Rattle.std.specs.Prelude.{ℕ, ◌+◌, ◌≤◌, ◌<◌, ◌≡◌, true, Result, Ok, length, take}
 use Prim.Native.Char.{code}
 use mathlib.Core.List.{[], ◌∷◌, ◌++◌, Memᴰ}
 use Rattle.text.specs.Lines.{StartsLine}
@@ -13,8 +13,8 @@ use Rattle.graph.specs.Reading.{accepted, graph_of}
 use Rattle.graph.specs.Meaning.{IsWidth}
 use Rattle.graph.specs.Claims.{IsField, WidthField, widths_of, SymbolAt}
 use Rattle.graph.specs.ModeClaims.{RefusedHere, RefusedAfter}
-use Rattle.graph.specs.declared.ReadOutcome.TheVariants.{Checked}
-use Rattle.graph.specs.declared.GraphRead.{GraphRead}
+use Rattle.graph.specs.declared.CheckedGraph.{CheckedGraph}
+use Rattle.graph.specs.declared.Cause.{Cause}
 
 -- after these bytes stands a line of this kind that goes on after its name: the others follow its LF
 pub record LongLine (text before : Bytes) (kind : ℕ) (name rest after : Bytes) : Type 0 where
@@ -42,12 +42,12 @@ abbrev pub New : Graph → Bytes → Type 0
 New g name = (x : Name) → Memᴰ x (g.signals ++ g.constants) → x.name ≡ name → ⊥
 
 -- THE CLAIM of the answer r to a text
-pub record WidthMeans (text : Bytes) (r : GraphRead) : Type 0 where
-  pub symbols : r.outcome ≡ Checked → (i : ℕ) → i < r.graph.named → SymbolAt text r.graph i
+pub record WidthMeans (text : Bytes) (r : Result CheckedGraph Cause) : Type 0 where
+  pub symbols : (graph : CheckedGraph) → r ≡ Ok graph → (i : ℕ) → i < graph.named → SymbolAt text graph i
   -- "The totals stay 63 and 6 bits"
-  pub bits_of_all : r.outcome ≡ Checked → r.graph.signals + r.graph.constants ≡ widths_of (take r.graph.named r.graph.names)
-  pub few-signals : r.outcome ≡ Checked → r.graph.signals ≤ 63
-  pub few-constants : r.outcome ≡ Checked → r.graph.constants ≤ 6
+  pub bits_of_all : (graph : CheckedGraph) → r ≡ Ok graph → graph.signals + graph.constants ≡ widths_of (take graph.named graph.names)
+  pub few-signals : (graph : CheckedGraph) → r ≡ Ok graph → graph.signals ≤ 63
+  pub few-constants : (graph : CheckedGraph) → r ≡ Ok graph → graph.constants ≤ 6
   -- "a width field out of shape or range is 2"; a vertex has none
   pub signal_width : (before name rest after : Bytes) → LongLine text before (code "S") name rest after → ((w : ℕ) → IsWidth w → rest ≡ digits w → ⊥) → length text ≤ 32768 → RefusedAfter before 2 r
   pub constant-width : (before name rest after : Bytes) → LongLine text before (code "K") name rest after → ((w : ℕ) → IsWidth w → rest ≡ digits w → ⊥) → length text ≤ 32768 → RefusedAfter before 2 r

@@ -1,12 +1,12 @@
 // Edges: their number, their vertices and their formulas.
 ghost use Rattle.std.specs.Prelude.{◌≡◌, ◌+◌, ◌^◌, ◌≤◌, ◌<◌, length};
 ghost use Rattle.graph.specs.Pieces.{piece_at, look_up};
-ghost use Rattle.graph.specs.Private.Steps.{pointed, listed, EachNarrow, Kept, judged_arc, arc_from, AddsArc, AddsEdge, with_edge};
+ghost use Rattle.graph.specs.Private.Steps.{points, held, EachNarrow, Kept, judged_arc, arc_from, AddsArc, AddsEdge, with_edge};
 
 use crate::formulas::{judge, lower_of};
 use crate::names::look_up;
 use crate::pieces::{end_at, part, piece};
-use crate::{Added, Arc, CheckedGraph, Fault, Found, Judged, faulty};
+use crate::{Arc, CheckedGraph, Fault};
 
 const MOST_EDGES: usize = 128;
 
@@ -15,44 +15,38 @@ fn with_edge(g: CheckedGraph, e: Arc) -> CheckedGraph
     requires { g.edges < 128 }
     ensures { result ≡ with_edge g e }
 {
-    let mut t = g;
-    let n = t.edges;
-    t.arcs[n] = e;
-    t.edges = n + 1;
-    t
+    let mut arcs = g.arcs;
+    arcs[g.edges] = e;
+    CheckedGraph {
+        arcs,
+        edges: g.edges + 1,
+        ..g
+    }
 }
 
 // The lower fault of an edge's two formulas.
-fn judge_both(text: &[u8], symbols: &[usize], total: usize, e: Arc) -> Judged
-    ensures { EachNarrow (listed text.now symbols.now total) → result ≡ judged_arc text.now (listed text.now symbols.now total) e }
+fn judge_both(text: &[u8], symbols: &[usize], e: Arc) -> Result<(), Fault>
+    ensures { EachNarrow (held text.now symbols.now) → result ≡ judged_arc text.now (held text.now symbols.now) e }
 {
-    let a = judge(text, symbols, total, part(text, e.left, e.lefts));
-    let c = judge(text, symbols, total, part(text, e.right, e.rights));
+    let a = judge(text, symbols, part(text, e.left, e.lefts));
+    let c = judge(text, symbols, part(text, e.right, e.rights));
     lower_of(a, c)
 }
 
 // An edge whose vertices are known.
-fn judge_edge(text: &[u8], g: CheckedGraph, e: Arc) -> Added
+fn judge_edge(text: &[u8], g: CheckedGraph, e: Arc) -> Result<CheckedGraph, Fault>
     requires { Kept g × (g.edges < 128) }
     ensures { AddsArc text.now g e result }
 {
-    let total = g.named;
-    let judged = judge_both(text, &g.names, total, e);
-    if let Judged::Faulty(fault) = judged {
-        return faulty(g, fault);
-    }
-    let graph = with_edge(g, e);
-    Added {
-        judged: Judged::Fine,
-        graph,
-    }
+    judge_both(text, &g.names[..g.named], e)?;
+    Ok(with_edge(g, e))
 }
 
 // The vertex whose name is the field at a place of the line.
-fn vertex_at(text: &[u8], points: &[usize], count: usize, line: &[u8], at: usize) -> Found
-    ensures { result ≡ look_up (piece_at 9 line.now at) (pointed text.now points.now count) }
+fn vertex_at(text: &[u8], starts: &[usize], line: &[u8], at: usize) -> Option<usize>
+    ensures { result ≡ look_up (piece_at 9 line.now at) (points text.now starts.now) }
 {
-    look_up(text, points, count, piece(line, at, b'\t'))
+    look_up(text, starts, piece(line, at, b'\t'))
 }
 
 // An edge by the places of its formulas in the text.
@@ -92,22 +86,16 @@ pub(crate) fn add_edge(
     marked: bool,
     left: usize,
     right: usize,
-) -> Added
+) -> Result<CheckedGraph, Fault>
     requires { Kept g × (at + length line.now ≤ length text.now) × (left ≤ length line.now) × (right ≤ length line.now) }
     ensures { AddsEdge text.now g line.now at from to marked left right result }
 {
     if MOST_EDGES <= g.edges {
-        return faulty(g, Fault::TooMany);
+        return Err(Fault::TooMany);
     }
-    let count = g.vertices;
-    let f = vertex_at(text, &g.points, count, line, from);
-    if !f.known {
-        return faulty(g, Fault::UnknownVertex);
-    }
-    let t = vertex_at(text, &g.points, count, line, to);
-    if !t.known {
-        return faulty(g, Fault::UnknownVertex);
-    }
-    let e = arc_of(line, at, f.place, t.place, marked, left, right);
+    let starts = &g.points[..g.vertices];
+    let f = vertex_at(text, starts, line, from).ok_or(Fault::UnknownVertex)?;
+    let t = vertex_at(text, starts, line, to).ok_or(Fault::UnknownVertex)?;
+    let e = arc_of(line, at, f, t, marked, left, right);
     judge_edge(text, g, e)
 }

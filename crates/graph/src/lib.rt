@@ -5,15 +5,15 @@
 #![tactic(auto)]
 
 ghost use Rattle.std.specs.Prelude.{◌≡◌, ◌+◌, ◌≤◌, length};
-ghost use Rattle.assertion.specs.Graph.{Bytes, Graph};
+ghost use Rattle.assertion.specs.Graph.{Bytes};
 ghost use Rattle.graph.specs.Pieces.{end_at};
-ghost use Rattle.graph.specs.Reading.{fault_number, refusal_of, refused, finished, nothing};
-ghost use Rattle.graph.specs.Held.{answer_of, read_of};
+ghost use Rattle.graph.specs.Reading.{fault_number, refusal_of, nothing};
+ghost use Rattle.graph.specs.Held.{read_of};
 ghost use Rattle.graph.specs.Claims.{GraphMeans};
 ghost use Rattle.graph.specs.ModeClaims.{ModeMeans};
 ghost use Rattle.graph.specs.WidthClaims.{WidthMeans};
 ghost use Rattle.graph.specs.FormulaClaims.{FormulaMeans};
-ghost use Rattle.graph.specs.Private.Steps.{Kept, written_of, faulty_of, AddsLine};
+ghost use Rattle.graph.specs.Private.Steps.{Kept, written_of, AddsLine};
 
 mod edges;
 mod formulas;
@@ -53,13 +53,6 @@ pub enum Fault {
     WrongWidth,
 }
 
-// What judging a formula finds.
-#[derive(Clone, Copy)]
-pub enum Judged {
-    Fine,
-    Faulty(Fault),
-}
-
 // Why a graph text is refused.
 #[derive(Clone, Copy)]
 pub enum Cause {
@@ -70,17 +63,9 @@ pub enum Cause {
     NoVertex,
 }
 
-// What looking up a vertex answers: whether it is known, and its place.
-#[derive(Clone, Copy)]
-pub struct Found {
-    pub known: bool,
-    pub place: usize,
-}
-
-// What looking up a signal or a constant answers: whether it is known, the place of its first bit, and its width.
+// A signal or a constant that is looked up: the place of its first bit, and its width.
 #[derive(Clone, Copy)]
 pub struct FoundName {
-    pub known: bool,
     pub place: usize,
     pub width: usize,
 }
@@ -115,23 +100,9 @@ pub struct CheckedGraph {
     pub arcs: [Arc; 128],
 }
 
-#[derive(Clone, Copy)]
-pub enum ReadOutcome {
-    Checked,
-    Refused(Cause),
-}
-
-// What reading a graph text answers; a refusal has the graph of no line.
-#[derive(Clone, Copy)]
-pub struct GraphRead {
-    pub outcome: ReadOutcome,
-    pub graph: CheckedGraph,
-}
-
-// What a line is: of no record's shape; or a record, by the places in the line where its fields start.
+// A record, by the places in the line where its fields start.
 #[derive(Clone, Copy)]
 enum Shape {
-    Wrong,
     Moded(Mode),
     Signal {
         at: usize,
@@ -151,13 +122,6 @@ enum Shape {
         left: usize,
         right: usize,
     },
-}
-
-// What a record's step answers: its fault with the graph as it was, or the graph with it.
-#[derive(Clone, Copy)]
-struct Added {
-    judged: Judged,
-    graph: CheckedGraph,
 }
 
 // The number of a line's fault in the table of refusals.
@@ -196,25 +160,14 @@ impl Cause {
     }
 }
 
-// The graph as it was, with a fault.
-fn faulty(g: CheckedGraph, fault: Fault) -> Added
-    ensures { result ≡ faulty_of g fault }
-{
-    Added {
-        judged: Judged::Faulty(fault),
-        graph: g,
-    }
-}
-
 // The record of the line from `at` to its end.
-fn add_line(text: &[u8], g: CheckedGraph, at: usize, end: usize) -> Added
+fn add_line(text: &[u8], g: CheckedGraph, at: usize, end: usize) -> Result<CheckedGraph, Fault>
     requires { Kept g × (end ≡ end_at 10 text.now at) × (at ≤ end) × (end ≤ length text.now) × (length text.now ≤ 32768) }
     ensures { AddsLine text.now g at result }
 {
     let line = &text[at..end];
-    let shape = shapes::shape_of(line);
+    let shape = shapes::shape_of(line).ok_or(Fault::WrongShape)?;
     match shape {
-        Shape::Wrong => faulty(g, Fault::WrongShape),
         Shape::Moded(mode) => modes::add_mode(g, mode),
         Shape::Signal {
             at: p,
@@ -266,34 +219,8 @@ fn empty() -> CheckedGraph
     }
 }
 
-// A refused text.
-fn refuse(cause: Cause) -> GraphRead
-    ensures { (text : Bytes) → result ≡ answer_of text (refused cause) }
-{
-    let graph = empty();
-    GraphRead {
-        outcome: ReadOutcome::Refused(cause),
-        graph,
-    }
-}
-
-// A text whose lines are all read: now the terminal edges are known.
-fn finish(g: CheckedGraph) -> GraphRead
-    requires { Kept g }
-    ensures { (text : Bytes) (graph : Graph) → g ≡ written_of text graph → result ≡ answer_of text (finished graph) }
-{
-    if g.vertices == 0 {
-        return refuse(Cause::NoVertex);
-    }
-    let graph = modes::choose(g);
-    GraphRead {
-        outcome: ReadOutcome::Checked,
-        graph,
-    }
-}
-
 // Reads a graph text: the checked graph, or why the text is refused.
-pub fn read_graph(text: &[u8]) -> GraphRead
+pub fn read_graph(text: &[u8]) -> Result<CheckedGraph, Cause>
     ensures value { result ≡ read_of text.now }
     ensures sound { GraphMeans text.now }
     ensures modes { ModeMeans text.now result }
@@ -301,7 +228,7 @@ pub fn read_graph(text: &[u8]) -> GraphRead
     ensures formulas { FormulaMeans text.now result }
 {
     if LONGEST_TEXT < text.len() {
-        return refuse(Cause::TextTooLong);
+        return Err(Cause::TextTooLong);
     }
     let mut g = empty();
     let mut at = 0;
@@ -309,17 +236,14 @@ pub fn read_graph(text: &[u8]) -> GraphRead
     while at < text.len() {
         let end = pieces::end_at(text, at, b'\n');
         if end == text.len() {
-            return refuse(Cause::FaultyLine(Fault::WrongShape, line));
+            return Err(Cause::FaultyLine(Fault::WrongShape, line));
         }
-        let next = add_line(text, g, at, end);
-        let judged = next.judged;
-        if let Judged::Faulty(fault) = judged {
-            return refuse(Cause::FaultyLine(fault, line));
-        }
-        let graph = next.graph;
-        g = graph;
+        g = add_line(text, g, at, end).map_err(|fault| Cause::FaultyLine(fault, line))?;
         at = end + 1;
         line += 1;
     }
-    finish(g)
+    if g.vertices == 0 {
+        return Err(Cause::NoVertex);
+    }
+    Ok(modes::choose(g))
 }

@@ -1,10 +1,10 @@
 // The mode, which is the first line, and the terminal edges, which it decides when all lines are read.
-ghost use Rattle.std.specs.Prelude.{◌≡◌, not, ◌≤◌, take};
+ghost use Rattle.std.specs.Prelude.{◌≡◌, ◌≤◌, take};
 ghost use Rattle.assertion.specs.Lists.{any};
 ghost use Rattle.graph.specs.Reading.{mode_lines};
 ghost use Rattle.graph.specs.Private.Steps.{Kept, AddsMode, with_mode, all_terminal, with_arcs, each_terminal, chosen_in};
 
-use crate::{Added, Arc, CheckedGraph, Fault, Judged, faulty};
+use crate::{Arc, CheckedGraph, Fault};
 use assertion::Mode;
 
 // How many lines say the mode.
@@ -22,37 +22,20 @@ fn mode_lines(mode: Mode) -> usize
 fn with_mode(g: CheckedGraph, mode: Mode) -> CheckedGraph
     ensures { result ≡ with_mode g mode }
 {
-    let names = g.names;
-    let points = g.points;
-    let arcs = g.arcs;
-    CheckedGraph {
-        mode,
-        named: g.named,
-        signals: g.signals,
-        constants: g.constants,
-        vertices: g.vertices,
-        edges: g.edges,
-        names,
-        points,
-        arcs,
-    }
+    CheckedGraph { mode, ..g }
 }
 
 // An `M` line's record.
-pub(crate) fn add_mode(g: CheckedGraph, mode: Mode) -> Added
+pub(crate) fn add_mode(g: CheckedGraph, mode: Mode) -> Result<CheckedGraph, Fault>
     requires { Kept g }
     ensures { AddsMode g mode result }
 {
     let said = g.mode;
     let first = mode_lines(said);
     if 0 < first + g.named + g.vertices + g.edges {
-        return faulty(g, Fault::WrongOrder);
+        return Err(Fault::WrongOrder);
     }
-    let graph = with_mode(g, mode);
-    Added {
-        judged: Judged::Fine,
-        graph,
-    }
+    Ok(with_mode(g, mode))
 }
 
 // Is one of the edges marked?
@@ -60,15 +43,7 @@ fn some_marked(g: CheckedGraph) -> bool
     requires { g.edges ≤ 128 }
     ensures { result ≡ any (λ a. a.terminal) (take g.edges g.arcs) }
 {
-    let mut i = 0;
-    while i < g.edges {
-        let a = g.arcs[i];
-        if a.terminal {
-            return true;
-        }
-        i += 1;
-    }
-    false
+    g.arcs[..g.edges].iter().any(|a| a.terminal)
 }
 
 // Is each edge terminal, whether marked or not?
@@ -89,15 +64,11 @@ fn make_terminal(g: CheckedGraph) -> CheckedGraph
     requires { g.edges ≤ 128 }
     ensures { result ≡ with_arcs g (all_terminal g.edges g.arcs) }
 {
-    let mut t = g;
-    let mut i = 0;
-    while i < g.edges {
-        let mut a = g.arcs[i];
+    let mut arcs = g.arcs;
+    for a in &mut arcs[..g.edges] {
         a.terminal = true;
-        t.arcs[i] = a;
-        i += 1;
     }
-    t
+    CheckedGraph { arcs, ..g }
 }
 
 // The graph with its terminal edges chosen by its mode.

@@ -7,7 +7,7 @@ ghost use Rattle.graph.specs.Private.Steps.{Kept, AddsSymbol, AddsName, with_sig
 
 use crate::names::{FIRST, LENGTH, START, look_up, look_up_name};
 use crate::pieces::{part, piece};
-use crate::{Added, CheckedGraph, Fault, Judged, faulty};
+use crate::{CheckedGraph, Fault};
 
 // The most bits of all signals, and of all constants.
 const MOST_SIGNALS: usize = 63;
@@ -29,13 +29,14 @@ fn with_signal(g: CheckedGraph, p: usize, length: usize, width: usize) -> Checke
     requires { (g.named < 69) × (g.signals + width ≤ 63) × (p ≤ 32768) × (length ≤ 15) × (width ≤ 16) }
     ensures { result ≡ with_signal g p length width }
 {
-    let mut t = g;
-    let n = t.named;
-    let place = t.signals;
-    t.names[n] = symbol_word(p, length, place, width);
-    t.named = n + 1;
-    t.signals = place + width;
-    t
+    let mut names = g.names;
+    names[g.named] = symbol_word(p, length, g.signals, width);
+    CheckedGraph {
+        names,
+        named: g.named + 1,
+        signals: g.signals + width,
+        ..g
+    }
 }
 
 // The graph with one constant more.
@@ -43,13 +44,14 @@ fn with_constant(g: CheckedGraph, p: usize, length: usize, width: usize) -> Chec
     requires { (g.named < 69) × (g.signals ≤ 63) × (g.constants + width ≤ 6) × (p ≤ 32768) × (length ≤ 15) }
     ensures { result ≡ with_constant g p length width }
 {
-    let mut t = g;
-    let n = t.named;
-    let place = t.signals + t.constants;
-    t.names[n] = symbol_word(p, length, place, width);
-    t.named = n + 1;
-    t.constants = t.constants + width;
-    t
+    let mut names = g.names;
+    names[g.named] = symbol_word(p, length, g.signals + g.constants, width);
+    CheckedGraph {
+        names,
+        named: g.named + 1,
+        constants: g.constants + width,
+        ..g
+    }
 }
 
 // The graph with one vertex more.
@@ -57,11 +59,13 @@ fn with_vertex(g: CheckedGraph, p: usize) -> CheckedGraph
     requires { g.vertices < 64 }
     ensures { result ≡ with_vertex g p }
 {
-    let mut t = g;
-    let n = t.vertices;
-    t.points[n] = p;
-    t.vertices = n + 1;
-    t
+    let mut points = g.points;
+    points[g.vertices] = p;
+    CheckedGraph {
+        points,
+        vertices: g.vertices + 1,
+        ..g
+    }
 }
 
 // A signal's record, whose name starts at p.
@@ -71,76 +75,58 @@ pub(crate) fn add_signal(
     p: usize,
     length: usize,
     width: usize,
-) -> Added
+) -> Result<CheckedGraph, Fault>
     requires { Kept g × IsWidth width × (p ≤ 32768) × (length ≤ 15) }
     ensures { AddsSymbol text.now g p length width add_signal result }
 {
     if 0 < g.constants + g.vertices + g.edges {
-        return faulty(g, Fault::WrongOrder);
+        return Err(Fault::WrongOrder);
     }
     if MOST_SIGNALS < g.signals + width {
-        return faulty(g, Fault::TooMany);
+        return Err(Fault::TooMany);
     }
-    let total = g.named;
-    let found = look_up_name(text, &g.names, total, part(text, p, length));
-    if found.known {
-        return faulty(g, Fault::NameRepeated);
+    if look_up_name(text, &g.names, g.named, part(text, p, length)).is_some() {
+        return Err(Fault::NameRepeated);
     }
-    let graph = with_signal(g, p, length, width);
-    Added {
-        judged: Judged::Fine,
-        graph,
-    }
+    Ok(with_signal(g, p, length, width))
 }
 
-// A constant's record, whose name starts at p.
+// A constant's record, whose name starts at p. One function for both would ask at each step which of them it is.
 pub(crate) fn add_constant(
     text: &[u8],
     g: CheckedGraph,
     p: usize,
     length: usize,
     width: usize,
-) -> Added
+) -> Result<CheckedGraph, Fault>
     requires { Kept g × IsWidth width × (p ≤ 32768) × (length ≤ 15) }
     ensures { AddsSymbol text.now g p length width add_constant result }
 {
     if 0 < g.vertices + g.edges {
-        return faulty(g, Fault::WrongOrder);
+        return Err(Fault::WrongOrder);
     }
     if MOST_CONSTANTS < g.constants + width {
-        return faulty(g, Fault::TooMany);
+        return Err(Fault::TooMany);
     }
-    let total = g.named;
-    let found = look_up_name(text, &g.names, total, part(text, p, length));
-    if found.known {
-        return faulty(g, Fault::NameRepeated);
+    if look_up_name(text, &g.names, g.named, part(text, p, length)).is_some() {
+        return Err(Fault::NameRepeated);
     }
-    let graph = with_constant(g, p, length, width);
-    Added {
-        judged: Judged::Fine,
-        graph,
-    }
+    Ok(with_constant(g, p, length, width))
 }
 
 // A vertex's record, whose name starts at p.
-pub(crate) fn add_vertex(text: &[u8], g: CheckedGraph, p: usize) -> Added
+pub(crate) fn add_vertex(text: &[u8], g: CheckedGraph, p: usize) -> Result<CheckedGraph, Fault>
     requires { Kept g }
     ensures { AddsName text.now g p add_vertex result }
 {
     if 0 < g.edges {
-        return faulty(g, Fault::WrongOrder);
+        return Err(Fault::WrongOrder);
     }
     if MOST_VERTICES <= g.vertices {
-        return faulty(g, Fault::TooMany);
+        return Err(Fault::TooMany);
     }
-    let total = g.vertices;
-    let found = look_up(text, &g.points, total, piece(text, p, b'\n'));
-    if found.known {
-        return faulty(g, Fault::NameRepeated);
+    if look_up(text, &g.points[..g.vertices], piece(text, p, b'\n')).is_some() {
+        return Err(Fault::NameRepeated);
     }
-    let graph = with_vertex(g, p);
-    Added {
-        judged: Judged::Fine,
-        graph,
-    }
+    Ok(with_vertex(g, p))
 }

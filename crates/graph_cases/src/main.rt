@@ -4,95 +4,83 @@
 // cases.py writes the cases and, by hand, what document 01 says of each.
 #![tactic(auto)]
 
-use graph::{GraphRead, ReadOutcome};
+ghost use Rattle.std.specs.Prelude.{IfSome, ◌≤◌, ◌<◌, length};
+
+use graph::{Cause, CheckedGraph};
 use std::io;
-use text::{Line, Number, Refusal};
+use text::{Line, Writer};
 
 // Appends a tab and a number.
-fn put_field(out: &mut [u8], at: usize, n: usize) -> usize {
-    let p = text::put_byte(out, at, b'\t');
-    text::put_number(out, p, n)
-}
-
-// Appends the counts of a graph.
-fn put_counts(out: &mut [u8], at: usize, s: usize, k: usize, v: usize, e: usize) -> usize {
-    let p1 = text::put_bytes(out, at, b"\tok");
-    let p2 = put_field(out, p1, s);
-    let p3 = put_field(out, p2, k);
-    let p4 = put_field(out, p3, v);
-    put_field(out, p4, e)
-}
-
-// Appends a refusal.
-fn put_refusal(out: &mut [u8], at: usize, r: Refusal) -> usize {
-    let p1 = text::put_bytes(out, at, b"\trefused");
-    let p2 = put_field(out, p1, r.number as usize);
-    put_field(out, p2, r.line as usize)
+fn put_field(line: &mut Writer, n: usize) {
+    line.byte(b'\t');
+    line.number(n);
 }
 
 // Appends what the reader answered.
-fn put_answer(out: &mut [u8], at: usize, r: GraphRead) -> usize {
-    let outcome = r.outcome;
-    match outcome {
-        ReadOutcome::Checked => {
-            let g = r.graph;
-            put_counts(out, at, g.signals, g.constants, g.vertices, g.edges)
+fn put_answer(line: &mut Writer, answer: Result<CheckedGraph, Cause>) {
+    match answer {
+        Ok(g) => {
+            line.bytes(b"\tok");
+            put_field(line, g.signals);
+            put_field(line, g.constants);
+            put_field(line, g.vertices);
+            put_field(line, g.edges);
         }
-        ReadOutcome::Refused(cause) => put_refusal(out, at, cause.refusal()),
+        Err(cause) => {
+            let r = cause.refusal();
+            line.bytes(b"\trefused");
+            put_field(line, r.number as usize);
+            put_field(line, r.line as usize);
+        }
     }
 }
 
-// Writes the first bytes of a buffer.
-fn write_front(rt: &impl Print, out: &[u8], end: usize) -> io::Result<()> {
-    if end <= out.len() {
-        rt.write_all(&out[0..end])?;
-    }
-    Ok(())
-}
-
-// Writes the line of one case.
-fn write_case(rt: &impl Print, label: &[u8], graph: &[u8]) -> io::Result<()> {
+// Writes the line of a case, where it has at most 256 bytes.
+fn write_case(rt: &impl Print, case: Case<'_>) -> io::Result<()> {
     let mut out = [0u8; 256];
-    let answer = graph::read_graph(graph);
-    let p1 = text::put_bytes(&mut out, 0, label);
-    let p2 = put_answer(&mut out, p1, answer);
-    let end = text::put_byte(&mut out, p2, b'\n');
-    write_front(rt, &out, end)
+    let mut line = Writer::new(&mut out);
+    line.bytes(case.label);
+    put_answer(&mut line, graph::read_graph(case.graph));
+    line.byte(b'\n');
+    let end = line.at;
+    match out.get(..end) {
+        Some(whole) => rt.write_all(whole),
+        None => Ok(()),
+    }
 }
 
-// The case at a place: the place after it, or the same place where there is none.
-fn one_case(rt: &impl Print, input: &[u8], at: usize) -> io::Result<usize> {
-    let Number::Read(length, tab) = text::read_number(input, at) else {
-        return Ok(at);
-    };
+// A case: its label, its graph text, and the place after it.
+#[derive(Clone, Copy)]
+struct Case<'a> {
+    label: &'a [u8],
+    graph: &'a [u8],
+    next: usize,
+}
+
+// The case at a place.
+fn case_at(input: &[u8], at: usize) -> Option<Case<'_>>
+    ensures { IfSome result (λ c. (at < c.next) × (c.next ≤ length input.now)) }
+{
+    let (length, tab) = text::read_number(input, at)?;
     let Line::Ended(end) = text::line_at(input, tab) else {
-        return Ok(at);
+        return None;
     };
-    if end <= tab {
-        return Ok(at);
-    }
-    if input.len() <= end {
-        return Ok(at);
-    }
-    let label = tab + 1;
+    let label = input.get(tab + 1..end)?;
     let start = end + 1;
-    if input.len() - start < length {
-        return Ok(at);
-    }
-    let next = start + length;
-    write_case(rt, &input[label..end], &input[start..next])?;
-    Ok(next)
+    let graph = input.get(start..)?.get(..length)?;
+    Some(Case {
+        label,
+        graph,
+        next: start + length,
+    })
 }
 
 // All cases.
 fn cases(rt: &impl Print, input: &[u8]) -> io::Result<()> {
     let mut at = 0;
-    while at < input.len() {
-        let next = one_case(rt, input, at)?;
-        if next <= at {
-            return Ok(());
-        }
-        at = next;
+    while let Some(case) = case_at(input, at) {
+        write_case(rt, case)?;
+        at = case.next;
     }
     Ok(())
 }

@@ -1,4 +1,5 @@
 -- A formula is a field: each byte of it comes after the tab and the LF. Assumes nothing.
+use Rattle.std.specs.Prelude.{Ok}
 use Prim.Native.Nat.{ℕ, ◌+◌, ◌<◌}
 use mathlib.Core.Path.{◌≡◌, refl, subst}
 use mathlib.Core.List.{List, [], ◌∷◌, ◌++◌, Memᴰ}
@@ -14,7 +15,6 @@ use Rattle.assertion.specs.Graph.{Bytes}
 use Rattle.graph.specs.Pieces.{Declared}
 use Rattle.graph.specs.Reading.{judged_tree, judged_formula}
 use Rattle.graph.specs.Claims.{IsField}
-use Rattle.graph.specs.declared.Judged.TheVariants.{Fine}
 use Rattle.graph.proofs.EdgeLineLaws.{none-empty}
 use Rattle.graph.proofs.WidthTextLaws.{one-without, joined-without}
 use Rattle.graph.proofs.SymbolTextLaws.{name-field, digits-without}
@@ -63,10 +63,10 @@ written-field s at (join b l r) h =
     two-parts (written s l) (written-field s at l h.1) (one_byte (operator_late h.0) (written-field s (at + length (written s l) + 1) r h.2))
 
 -- ---- THE LAW: a formula that is judged fine is a field
-pub fine-field : (ns : List Declared) {s : Bytes} → judged_formula ns s ≡ Fine → IsField s
+pub fine-field : (ns : List Declared) {s : Bytes} → judged_formula ns s ≡ (Ok tt) → IsField s
 unfolding judged_tree
 fine-field ns {s} h = by (tree_of s) refl h
   where
-    by : (p : Parsed) → tree_of s ≡ p → judged_tree ns s p ≡ Fine → IsField s
+    by : (p : Parsed) → tree_of s ≡ p → judged_tree ns s p ≡ (Ok tt) → IsField s
     by none e k = let z : ◌≡◌ {A = ℕ} 0 1 = cc in absurd (omega arith)
     by (tree t) e k = let f = (grammar_means s).only t e in subst IsField f.text (written-field s 0 t f.places)

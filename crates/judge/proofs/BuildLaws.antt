@@ -1,4 +1,5 @@
 -- What comes of a graph text that was built into a buffer with room for every netlist. Assumes nothing.
+use Rattle.std.specs.Prelude.{Result, Ok, Err}
 use mathlib.Core.Path.{◌≡◌, refl, ap, sym, ◌∙◌}
 use mathlib.Core.Bool.{Bool, true, false, cond, not}
 use mathlib.Core.List.{List, [], ◌++◌, append-nil}
@@ -14,8 +15,6 @@ use Rattle.circuit.specs.Numbers.{numbers_of}
 use Rattle.circuit.proofs.Places.{long}
 use Rattle.builder.specs.declared.Cause.{Cause}
 use Rattle.builder.specs.declared.Cause.TheVariants.{GraphText, TooManyVariables, ShortBuffer}
-use Rattle.builder.specs.declared.Built.{Built}
-use Rattle.builder.specs.declared.Built.TheVariants.{Gates, Refused}
 use Rattle.builder.specs.Build.{variables_of, BuildEnd, build_end, build_as, build_of}
 use Rattle.builder.specs.Claims.{BuildMeans}
 use Rattle.demand.specs.Demand.{Demand3}
@@ -34,8 +33,8 @@ graph_end accept refuse (refused c) = refuse (GraphText c)
 graph_end accept refuse (accepted g) = cond (leb (variables_of false g) 4095) (accept g) (refuse TooManyVariables)
 
 -- ---- a build, as it answered and left
-module _ (text : Bytes) (room : List ℕ) {r : Built} {net : List ℕ} (e : build_end r net ≡ build_of false text room) where
-  pub build_answered : {x : Built} → r ≡ x → (build_of false text room).answer ≡ x
+module _ (text : Bytes) (room : List ℕ) {r : Result ℕ Cause} {net : List ℕ} (e : build_end r net ≡ build_of false text room) where
+  pub build_answered : {x : Result ℕ Cause} → r ≡ x → (build_of false text room).answer ≡ x
   build_answered h = sym (ap (λ (b : BuildEnd). b.answer) e) ∙ h
 
   pub build_left : (build_of false text room).net ≡ net
@@ -44,19 +43,19 @@ module _ (text : Bytes) (room : List ℕ) {r : Built} {net : List ℕ} (e : buil
 module _ (room : List ℕ) (enough : 8194 ≤ length room) where
   abbrev ends : Graph → Bool → Bool → BuildEnd
   ends g a b =
-      cond (not a) (build_end (Refused TooManyVariables) room)
-      (cond (not b) (build_end (Refused ShortBuffer) room)
-      (build_end (Gates (length (gates_of g))) (numbers_of g ++ drop (length (numbers_of g)) room)))
+      cond (not a) (build_end (Err TooManyVariables) room)
+      (cond (not b) (build_end (Err ShortBuffer) room)
+      (build_end (Ok (length (gates_of g))) (numbers_of g ++ drop (length (numbers_of g)) room)))
 
   -- ---- a build that is refused
   module _ {A : Type 0} (accept : Graph → A) (refuse : Cause → A) (cause : Cause) where
-    refused_as_lem : (o : Outcome) → (build_as false o room).answer ≡ Refused cause → graph_end accept refuse o ≡ refuse cause
+    refused_as_lem : (o : Outcome) → (build_as false o room).answer ≡ Err cause → graph_end accept refuse o ≡ refuse cause
     unfolding build_as graph_end
     refused_as_lem (refused c) e = let q : GraphText c ≡ cause = cc in ap refuse q
     refused_as_lem (accepted g) e = go (leb (variables_of false g) 4095) refl (leb (length (numbers_of g)) (length room)) refl e
       where
         go : (a : Bool) → leb (variables_of false g) 4095 ≡ a → (b : Bool) → leb (length (numbers_of g)) (length room) ≡ b
-            → (ends g a b).answer ≡ Refused cause → cond a (accept g) (refuse TooManyVariables) ≡ refuse cause
+            → (ends g a b).answer ≡ Err cause → cond a (accept g) (refuse TooManyVariables) ≡ refuse cause
         go false h b k e = let q : TooManyVariables ≡ cause = cc in ap refuse q
         go true h false k e =
             let n = numbers-most g (leb-true (variables_of false g) 4095 h) in
@@ -64,7 +63,7 @@ module _ (room : List ℕ) (enough : 8194 ≤ length room) where
             absurd (omega arith)
         go true h true k e = let z : ◌≡◌ {A = ℕ} 0 1 = cc in absurd (omega arith)
 
-    pub build_refused : (text : Bytes) → (build_of false text room).answer ≡ Refused cause → graph_end accept refuse (graph_of text) ≡ refuse cause
+    pub build_refused : (text : Bytes) → (build_of false text room).answer ≡ Err cause → graph_end accept refuse (graph_of text) ≡ refuse cause
     unfolding build_of
     build_refused text e = refused_as_lem (graph_of text) e
 
@@ -75,7 +74,7 @@ module _ (room : List ℕ) (enough : 8194 ≤ length room) where
     pub small : leb (variables_of false g) 4095 ≡ true
     pub net : (build_of false text room).net ≡ numbers_of g ++ drop (length (numbers_of g)) room
 
-  made_as : (text : Bytes) (made : ℕ) (o : Outcome) → graph_of text ≡ o → (build_as false o room).answer ≡ Gates made → Made text
+  made_as : (text : Bytes) (made : ℕ) (o : Outcome) → graph_of text ≡ o → (build_as false o room).answer ≡ Ok made → Made text
   unfolding build_as build_of
   made_as text made (refused c) e h = let z : ◌≡◌ {A = ℕ} 0 1 = cc in absurd (omega arith)
   made_as text made (accepted g) e h =
@@ -86,12 +85,12 @@ module _ (room : List ℕ) (enough : 8194 ≤ length room) where
         net = ap (λ (o : Outcome). (build_as false o room).net) e ∙ (passed (leb (variables_of false g) 4095) (leb (length (numbers_of g)) (length room)) h).1;
       }
     where
-      passed : (a b : Bool) → (ends g a b).answer ≡ Gates made → (a ≡ true) × ((ends g a b).net ≡ numbers_of g ++ drop (length (numbers_of g)) room)
+      passed : (a b : Bool) → (ends g a b).answer ≡ Ok made → (a ≡ true) × ((ends g a b).net ≡ numbers_of g ++ drop (length (numbers_of g)) room)
       passed false b h = let z : ◌≡◌ {A = ℕ} 0 1 = cc in absurd (omega arith)
       passed true false h = let z : ◌≡◌ {A = ℕ} 0 1 = cc in absurd (omega arith)
       passed true true h = (refl, refl)
 
-  module _ (text : Bytes) (made : ℕ) (h : (build_of false text room).answer ≡ Gates made) where
+  module _ (text : Bytes) (made : ℕ) (h : (build_of false text room).answer ≡ Ok made) where
     pub build_made : Made text
     unfolding build_of
     build_made = made_as text made (graph_of text) refl h

@@ -1,4 +1,5 @@
 -- What a judgement gives to those who print it. Assumes nothing.
+use Rattle.std.specs.Prelude.{Result, Ok, Err}
 use mathlib.Core.Path.{◌≡◌, refl, sym, subst}
 use mathlib.Core.Bool.{Bool, true, false, cond, not}
 use mathlib.Core.List.{List, [], ◌++◌}
@@ -23,9 +24,8 @@ use Rattle.calls.specs.declared.tally.Tally.{Tally}
 use Rattle.simulator.specs.declared.outcome.Verdict.{Verdict}
 use Rattle.simulator.specs.Run.{verdict_of}
 use Rattle.demand.proofs.Held.{verdicts-length}
+use Rattle.judge.specs.declared.Cause.{Cause}
 use Rattle.judge.specs.declared.Cause.TheVariants as cause
-use Rattle.judge.specs.declared.Judged.{Judged}
-use Rattle.judge.specs.declared.Judged.TheVariants.{Done, Refused}
 use Rattle.judge.specs.Judge.{inputs_of, JudgeEnd, judge_end, trace_judged, judge_as, judge_of}
 use Rattle.judge.proofs.BuildLaws.{graph_end}
 
@@ -38,9 +38,9 @@ cycles-most g trace =
     omega (arith, two, lines_fit (1 + signal_bits g) trace, length-cycles (1 + signal_bits g) trace)
 
 -- how many cycles were judged
-unfoldable cycles_in : Judged → ℕ
-cycles_in (Done t v) = t.cycles
-cycles_in (Refused c) = 0
+unfoldable cycles_in : Result (Tally × Verdict) Cause → ℕ
+cycles_in (Ok (t, v)) = t.cycles
+cycles_in (Err c) = 0
 
 -- ---- a trace that is judged by a graph
 module _ (g : Graph) (trace : Bytes) (buffer : List ℕ) where
@@ -51,10 +51,10 @@ module _ (g : Graph) (trace : Bytes) (buffer : List ℕ) where
   judged = paths.verdicts g [] cycles
 
   abbrev done : JudgeEnd
-  done = judge_end (Done (record { cycles = length cycles; rejected = count_rejected g cycles; checked = 0 }) (verdict_of judged)) (judged ++ drop (length judged) buffer)
+  done = judge_end (Ok (record { cycles = length cycles; rejected = count_rejected g cycles; checked = 0 }, verdict_of judged)) (judged ++ drop (length judged) buffer)
 
   abbrev wrong : JudgeEnd
-  wrong = judge_end (Refused (cause.Trace (WrongLine (fault_of (inputs_of g) trace)))) buffer
+  wrong = judge_end (Err (cause.Trace (WrongLine (fault_of (inputs_of g) trace)))) buffer
 
   -- of a trace that is short enough, with a byte for each two of its own, only a wrong line is refused
   pub room-judged : length trace ≤ 1048576 → length trace ≤ length buffer * 2
@@ -77,7 +77,7 @@ module _ (g : Graph) (trace : Bytes) (buffer : List ℕ) where
   trace-within = go (is_short trace) (eqb (fault_of (inputs_of g) trace) 0) (leb (length judged) (length buffer)) refl
     where
       go : (s f l : Bool) → leb (length judged) (length buffer) ≡ l
-          → cycles_in (cond (not s) (judge_end (Refused (cause.Trace TraceTooLong)) buffer) (cond (not f) wrong (cond (not l) (judge_end (Refused (cause.Trace ShortBuffer)) buffer) done))).answer
+          → cycles_in (cond (not s) (judge_end (Err (cause.Trace TraceTooLong)) buffer) (cond (not f) wrong (cond (not l) (judge_end (Err (cause.Trace ShortBuffer)) buffer) done))).answer
           ≤ length buffer
       go false f l e = omega arith
       go true false l e = omega arith
@@ -90,7 +90,7 @@ module _ (text trace : Bytes) (buffer : List ℕ) where
   -- with cause c
   pub judge_end_lem : {A : Type 0} (f : JudgeEnd → A) (accept : Graph → A) (refuse : builder.Cause → A)
       → ((g : Graph) → f (trace_judged g trace buffer) ≡ accept g)
-      → ((c : builder.Cause) → f (judge_end (Refused (cause.Graph c)) buffer) ≡ refuse c)
+      → ((c : builder.Cause) → f (judge_end (Err (cause.Graph c)) buffer) ≡ refuse c)
       → f (judge_of text trace buffer) ≡ graph_end accept refuse (graph_of text)
   unfolding judge_of judge_as graph_end
   judge_end_lem {A} f accept refuse a r = go (graph_of text)
@@ -108,7 +108,7 @@ module _ (text trace : Bytes) (buffer : List ℕ) where
   all-within = go (graph_of text)
     where
       by : (b : Bool) (x : JudgeEnd) (c : builder.Cause) → cycles_in x.answer ≤ length buffer
-          → cycles_in (cond b x (judge_end (Refused (cause.Graph c)) buffer)).answer ≤ length buffer
+          → cycles_in (cond b x (judge_end (Err (cause.Graph c)) buffer)).answer ≤ length buffer
       by true x c h = h
       by false x c h = omega arith
 
@@ -116,7 +116,7 @@ module _ (text trace : Bytes) (buffer : List ℕ) where
       go (refused c) = omega arith
       go (accepted g) = by (leb (variables_of false g) 4095) (trace_judged g trace buffer) TooManyVariables (trace-within g trace buffer)
 
-  pub done_within : {r : Judged} {left : List ℕ} → judge_end r left ≡ judge_of text trace buffer → {t : Tally} {v : Verdict} → r ≡ Done t v
+  pub done_within : {r : Result (Tally × Verdict) Cause} {left : List ℕ} → judge_end r left ≡ judge_of text trace buffer → {t : Tally} {v : Verdict} → r ≡ Ok (t, v)
       → t.cycles ≤ length buffer
   unfolding cycles_in
   done_within {r} e h =

@@ -1,5 +1,7 @@
 -- The judgement of a run is the one that paths give: demand 3 carries it from start and run on the numbers that build
 -- left to settings and paths. Assumes nothing.
+use Rattle.std.specs.Prelude.{Result, Ok, Err}
+use Rattle.simulator.specs.declared.outcome.Verdict.{Verdict}
 use mathlib.Core.Path.{◌≡◌, refl, ap, ap₂, sym, subst, ◌∙◌}
 use mathlib.Core.Bool.{Bool, true, false, cond, not}
 use mathlib.Core.List.{List, [], ◌∷◌, ◌++◌}
@@ -21,25 +23,18 @@ use Rattle.graph.specs.Reading.{graph_of}
 use Rattle.circuit.specs.Numbers.{numbers_of}
 use Rattle.circuit.proofs.Places.{inputs_are}
 use Rattle.builder.specs.declared.Cause as builder
-use Rattle.builder.specs.declared.Built.{Built}
-use Rattle.builder.specs.declared.Built.TheVariants as built
 use Rattle.builder.specs.Build.{build_end, build_of}
 use Rattle.builder.specs.Claims.{BuildMeans}
 use Rattle.calls.specs.declared.refusal.Cause as calls
 use Rattle.calls.specs.declared.refusal.Cause.TheVariants.{TraceTooLong, WrongLine, ShortBuffer, FullTally}
-use Rattle.calls.specs.declared.refusal.Tested.{Tested}
-use Rattle.calls.specs.declared.refusal.Tested.TheVariants.{Passed, Failed}
 use Rattle.calls.specs.declared.tally.Tally.{Tally}
 use Rattle.calls.specs.Tallies.{cleared, has_room}
 use Rattle.calls.specs.Refusals.{is_short, has_latches, has_values, start_check, run_check}
 use Rattle.calls.proofs.TallyLaws.{fits-room}
 use Rattle.trace.specs.Traces.{fault_of, line_count, cycles_of}
 use Rattle.trace.proofs.TraceLaws.{lines_fit, length-cycles}
-use Rattle.simulator.specs.declared.outcome.StartOutcome.TheVariants.{Ready}
 use Rattle.simulator.specs.declared.outcome.Started.{Started}
 use Rattle.simulator.specs.declared.outcome.Ran.{Ran}
-use Rattle.simulator.specs.declared.outcome.RunOutcome.{RunOutcome}
-use Rattle.simulator.specs.declared.outcome.RunOutcome.TheVariants as run
 use Rattle.simulator.specs.Start.{StartEnd, start_end, start_words, start_as, start_of}
 use Rattle.simulator.specs.Run.{verdict_byte, verdict_of, RunEnd, run_end, run_as, run_of}
 use Rattle.simulator.proofs.StartLaws.{length-starts}
@@ -48,7 +43,6 @@ use Rattle.demand.specs.Calls.{run_call, called, run_gives}
 use Rattle.demand.specs.Demand.{BytesRight, Counted, kept_by, Demand3}
 use Rattle.demand.proofs.Held.{verdicts-length}
 use Rattle.judge.specs.declared.Cause.TheVariants as cause
-use Rattle.judge.specs.declared.Judged.TheVariants.{Done, Refused}
 use Rattle.judge.specs.Judge.{inputs_of, JudgeEnd, judge_end, trace_judged, judge_of}
 use Rattle.judge.specs.Private.Machine.{outcome_judged, judged_run, machine_end, machine_judged}
 use Rattle.judge.proofs.BuildLaws.{graph_end, build_answered, build_left, build_refused, build_made, made_end, made_demand}
@@ -78,21 +72,21 @@ module _ (net trace : List ℕ) (netlist : is_netlist net ≡ true) (lent values
   cycles = cycles_of (input_count net) trace
 
   -- ---- the start is accepted
-  starts : start_check net (length lent) ≡ Passed
+  starts : start_check net (length lent) ≡ Ok tt
   unfolding start_check has_latches
   starts = rw (netlist, le-leb (latch_count net) (length lent) (omega (arith, held.sum, held.some, held.small)))
 
-  started : (start_of net lent cleared).answer.outcome ≡ Ready
+  started : (start_of net lent cleared).answer.outcome ≡ Ok tt
   unfolding start_of start_as
-  started = ap (λ (c : Tested). (start_as c net lent cleared).answer.outcome) starts
+  started = ap (λ (c : Result Unit calls.Cause). (start_as c net lent cleared).answer.outcome) starts
 
   start-tally : tally ≡ cleared
   unfolding start_of start_as
-  start-tally = ap (λ (c : Tested). (start_as c net lent cleared).answer.tally) starts
+  start-tally = ap (λ (c : Result Unit calls.Cause). (start_as c net lent cleared).answer.tally) starts
 
   start-latches : latches ≡ start_words net (latch_count net) ++ drop (latch_count net) lent
   unfolding start_of start_as
-  start-latches = ap (λ (c : Tested). (start_as c net lent cleared).latches) starts
+  start-latches = ap (λ (c : Result Unit calls.Cause). (start_as c net lent cleared).latches) starts
 
   start_enough : latch_count net ≤ length latches
   start_enough =
@@ -111,8 +105,8 @@ module _ (net trace : List ℕ) (netlist : is_netlist net ≡ true) (lent values
       let most : lines ≤ 1048576 = omega (arith, two, lines_fit (input_count net) trace, leb-true (length trace) 1048576 short) in
       fits-room cleared lines (omega arith, omega arith, omega arith)
 
-  abbrev judged_as : Bool → Bool → Bool → Tested
-  judged_as s f l = cond (not s) (Failed TraceTooLong) (cond (not f) (Failed (WrongLine fault)) (cond (not l) (Failed ShortBuffer) Passed))
+  abbrev judged_as : Bool → Bool → Bool → Result Unit calls.Cause
+  judged_as s f l = cond (not s) (Err TraceTooLong) (cond (not f) (Err (WrongLine fault)) (cond (not l) (Err ShortBuffer) (Ok tt)))
 
   checked : run_check net trace (length latches) (length values) (length bytes) cleared ≡ judged_as (is_short trace) (eqb fault 0) (leb lines (length bytes))
   unfolding run_check has_latches has_values
@@ -125,11 +119,11 @@ module _ (net trace : List ℕ) (netlist : is_netlist net ≡ true) (lent values
       (go (is_short trace) refl)
     where
       go : (s : Bool) → is_short trace ≡ s
-          → cond (not s) (Failed TraceTooLong)
-          (cond (not (eqb fault 0)) (Failed (WrongLine fault))
-          (cond (not (leb lines (length bytes))) (Failed ShortBuffer)
-          (cond (not (has_room cleared lines)) (Failed FullTally)
-          Passed)))
+          → cond (not s) (Err TraceTooLong)
+          (cond (not (eqb fault 0)) (Err (WrongLine fault))
+          (cond (not (leb lines (length bytes))) (Err ShortBuffer)
+          (cond (not (has_room cleared lines)) (Err FullTally)
+          (Ok tt))))
           ≡ judged_as s (eqb fault 0) (leb lines (length bytes))
       go true h = rw (has_room_lem h)
       go false h = refl
@@ -138,26 +132,26 @@ module _ (net trace : List ℕ) (netlist : is_netlist net ≡ true) (lent values
   run-checked = ap (run_check net trace (length latches) (length values) (length bytes)) start-tally ∙ checked
 
   -- ---- a run that is refused
-  stopped : {c : calls.Cause} → run_check net trace (length latches) (length values) (length bytes) tally ≡ Failed c
-      → judged_run ending ≡ judge_end (Refused (cause.Trace c)) bytes
+  stopped : {c : calls.Cause} → run_check net trace (length latches) (length values) (length bytes) tally ≡ Err c
+      → judged_run ending ≡ judge_end (Err (cause.Trace c)) bytes
   unfolding run_of run_as outcome_judged
-  stopped e = ap (λ (k : Tested). judged_run (run_as k net trace latches values bytes tally)) e
+  stopped e = ap (λ (k : Result Unit calls.Cause). judged_run (run_as k net trace latches values bytes tally)) e
 
   module _ (g : Graph) (made : ℕ) (demand : Demand3 false g net made) where
     abbrev judged : List ℕ
     judged = paths.verdicts g [] cycles
 
     -- ---- a run that is not
-    module _ (passed : run_check net trace (length latches) (length values) (length bytes) tally ≡ Passed) where
+    module _ (passed : run_check net trace (length latches) (length values) (length bytes) tally ≡ Ok tt) where
       abbrev found : List ℕ
       found = bytes_of net cycles (take (latch_count net) latches)
 
-      outcome : ending.answer.outcome ≡ run.Done (verdict_of found)
+      outcome : ending.answer.outcome ≡ Ok (verdict_of found)
       outcome = run-outcome net trace latches values bytes tally passed
 
       given : run_gives ending.answer.outcome (input_count net) trace ≡ cycles
       unfolding run_gives
-      given = ap (λ (o : RunOutcome). run_gives o (input_count net) trace) outcome
+      given = ap (λ (o : Result Verdict calls.Cause). run_gives o (input_count net) trace) outcome
 
       -- what demand 3 says of the one run
       counted : Counted false g net [] (kept_by (start_of net lent cleared)) (run_call trace values bytes ∷ [])
@@ -187,15 +181,15 @@ module _ (net trace : List ℕ) (netlist : is_netlist net ≡ true) (lent values
           ∙ ap (take (length cycles)) (sym (run-verdicts net trace latches values bytes tally passed))
           ∙ bytes-right
 
-      ended : judged_run ending ≡ judge_end (Done (record { cycles = length cycles; rejected = count_rejected g cycles; checked = 0 }) (verdict_of judged)) (judged ++ drop (length cycles) bytes)
+      ended : judged_run ending ≡ judge_end (Ok (record { cycles = length cycles; rejected = count_rejected g cycles; checked = 0 }, verdict_of judged)) (judged ++ drop (length cycles) bytes)
       unfolding outcome_judged
       ended =
-          ap (λ (o : RunOutcome). judge_end (outcome_judged o ending.answer.tally) ending.verdicts) outcome
-          ∙ ap₂ (λ (c r : ℕ). judge_end (Done (record { cycles = c; rejected = r; checked = ending.answer.tally.checked }) (verdict_of found)) ending.verdicts) cycles-right rejected-right
-          ∙ ap (λ (k : ℕ). judge_end (Done (record { cycles = length cycles; rejected = count_rejected g cycles; checked = k }) (verdict_of found)) ending.verdicts) checked-right
-          ∙ ap (λ (v : List ℕ). judge_end (Done (record { cycles = length cycles; rejected = count_rejected g cycles; checked = 0 }) (verdict_of found)) v)
+          ap (λ (o : Result Verdict calls.Cause). judge_end (outcome_judged o ending.answer.tally) ending.verdicts) outcome
+          ∙ ap₂ (λ (c r : ℕ). judge_end (Ok (record { cycles = c; rejected = r; checked = ending.answer.tally.checked }, verdict_of found)) ending.verdicts) cycles-right rejected-right
+          ∙ ap (λ (k : ℕ). judge_end (Ok (record { cycles = length cycles; rejected = count_rejected g cycles; checked = k }, verdict_of found)) ending.verdicts) checked-right
+          ∙ ap (λ (v : List ℕ). judge_end (Ok (record { cycles = length cycles; rejected = count_rejected g cycles; checked = 0 }, verdict_of found)) v)
           (run-verdicts net trace latches values bytes tally passed)
-          ∙ ap (λ (b : List ℕ). judge_end (Done (record { cycles = length cycles; rejected = count_rejected g cycles; checked = 0 }) (verdict_of b)) (b ++ drop (length cycles) bytes))
+          ∙ ap (λ (b : List ℕ). judge_end (Ok (record { cycles = length cycles; rejected = count_rejected g cycles; checked = 0 }, verdict_of b)) (b ++ drop (length cycles) bytes))
           found_right
 
     run-judged : input_count net ≡ inputs_of g → judged_run ending ≡ trace_judged g trace bytes
@@ -206,10 +200,10 @@ module _ (net trace : List ℕ) (netlist : is_netlist net ≡ true) (lent values
       where
         go : (s f l : Bool) → run_check net trace (length latches) (length values) (length bytes) tally ≡ judged_as s f l
             → judged_run ending
-            ≡ cond (not s) (judge_end (Refused (cause.Trace TraceTooLong)) bytes)
-            (cond (not f) (judge_end (Refused (cause.Trace (WrongLine fault))) bytes)
-            (cond (not l) (judge_end (Refused (cause.Trace ShortBuffer)) bytes)
-            (judge_end (Done (record { cycles = lines; rejected = count_rejected g cycles; checked = 0 }) (verdict_of judged)) (judged ++ drop lines bytes))))
+            ≡ cond (not s) (judge_end (Err (cause.Trace TraceTooLong)) bytes)
+            (cond (not f) (judge_end (Err (cause.Trace (WrongLine fault))) bytes)
+            (cond (not l) (judge_end (Err (cause.Trace ShortBuffer)) bytes)
+            (judge_end (Ok (record { cycles = lines; rejected = count_rejected g cycles; checked = 0 }, verdict_of judged)) (judged ++ drop lines bytes))))
         go false f l e = stopped e
         go true false l e = stopped e
         go true true false e = stopped e
@@ -227,18 +221,18 @@ machine_end_lem net trace bytes starts runs = ap judged_run runs ∙ ap (λ (s :
     after s = run_of net trace s.latches (replicate 4096 0) bytes s.answer.tally
 
 -- ---- a build into a buffer that has room for every netlist, as it answered and left
-module _ (text trace : Bytes) (bytes : List ℕ) {room : List ℕ} (means : BuildMeans false text room) {r : Built} {net : List ℕ} (e : build_end r net ≡ build_of false text room)
+module _ (text trace : Bytes) (bytes : List ℕ) {room : List ℕ} (means : BuildMeans false text room) {r : Result ℕ builder.Cause} {net : List ℕ} (e : build_end r net ≡ build_of false text room)
     (enough : 8194 ≤ length room) where
   abbrev refuse : builder.Cause → JudgeEnd
-  refuse c = judge_end (Refused (cause.Graph c)) bytes
+  refuse c = judge_end (Err (cause.Graph c)) bytes
 
   by_graph : judge_of text trace bytes ≡ graph_end (λ g. trace_judged g trace bytes) refuse (graph_of text)
   by_graph = judge_end_lem text trace bytes (λ e. e) (λ g. trace_judged g trace bytes) refuse (λ g. refl) (λ c. refl)
 
-  pub refused-judged : {c : builder.Cause} → r ≡ built.Refused c → refuse c ≡ judge_of text trace bytes
+  pub refused-judged : {c : builder.Cause} → r ≡ Err c → refuse c ≡ judge_of text trace bytes
   refused-judged {c} h = sym (by_graph ∙ build_refused room enough (λ g. trace_judged g trace bytes) refuse c text (build_answered text room e h))
 
-  pub made_judged : {made : ℕ} → r ≡ built.Gates made → machine_judged net trace bytes ≡ judge_of text trace bytes
+  pub made_judged : {made : ℕ} → r ≡ Ok made → machine_judged net trace bytes ≡ judge_of text trace bytes
   unfolding machine_judged machine_end inputs_of
   made_judged {made} h =
       let m = build_made room enough text made (build_answered text room e h) in

@@ -1,6 +1,6 @@
 -- What the contract of judge claims of its answer and of the verdict buffer, without the tests of the definition. Assumes
 -- nothing.
-use Rattle.std.specs.Prelude.{◌≡◌, false, List, [], ◌++◌, ℕ, suc, ◌+◌, ◌<◌, ◌≤◌, length, drop}
+use Rattle.std.specs.Prelude.{Result, Ok, Err, ◌≡◌, false, List, [], ◌++◌, ℕ, suc, ◌+◌, ◌<◌, ◌≤◌, length, drop}
 use Rattle.assertion.specs.Graph.{Bytes, Graph, signal_bits}
 use Rattle.assertion.specs.Paths.{verdicts, count_rejected}
 use Rattle.graph.specs.declared.Cause as graph
@@ -10,12 +10,11 @@ use Rattle.builder.specs.declared.Cause.TheVariants.{GraphText, TooManyVariables
 use Rattle.builder.specs.Build.{variables_of}
 use Rattle.trace.specs.Claims.{Cycles, lines_of, FirstWrong}
 use Rattle.calls.specs.declared.refusal.Cause.TheVariants.{TraceTooLong, WrongLine, ShortBuffer}
+use Rattle.calls.specs.declared.tally.Tally.{Tally}
 use Rattle.simulator.specs.declared.outcome.Verdict.{Verdict}
 use Rattle.demand.specs.Demand.{VerdictOfPaths}
 use Rattle.judge.specs.declared.Cause.{Cause}
 use Rattle.judge.specs.declared.Cause.TheVariants as cause
-use Rattle.judge.specs.declared.Judged.{Judged}
-use Rattle.judge.specs.declared.Judged.TheVariants.{Done, Refused}
 use Rattle.judge.specs.Judge.{refusal_of}
 
 -- the text is that of this graph, whose circuit is not too large
@@ -54,9 +53,9 @@ pub data JudgeMeans (text trace before after : List ℕ) (Refuses : Cause → �
       → JudgeMeans text trace before after Refuses Gives
 
 -- what an answer of judge says of a cause, and the number and line in which that is reported
-abbrev pub RefusedFor : Judged → Cause → ℕ → ℕ → Type 0
-RefusedFor answer c number line = (answer ≡ Refused c) × (refusal_of c ≡ record { number = number; line = line })
+abbrev pub RefusedFor : Result (Tally × Verdict) Cause → Cause → ℕ → ℕ → Type 0
+RefusedFor answer c number line = (answer ≡ Err c) × (refusal_of c ≡ record { number = number; line = line })
 
 -- and of a tally and a verdict; the circuit has no second output
-abbrev pub GivenAs : Judged → ℕ → ℕ → Verdict → Type 0
-GivenAs answer cycles rejected verdict = answer ≡ Done (record { cycles = cycles; rejected = rejected; checked = 0 }) verdict
+abbrev pub GivenAs : Result (Tally × Verdict) Cause → ℕ → ℕ → Verdict → Type 0
+GivenAs answer cycles rejected verdict = answer ≡ Ok (record { cycles = cycles; rejected = rejected; checked = 0 }, verdict)

@@ -1,6 +1,6 @@
 -- The judgement of a trace by a graph text, said by settings and paths: nothing here is built or run. A refusal leaves
 -- the verdict buffer as it was. Assumes nothing.
-use Rattle.std.specs.Prelude.{false, cond, not, List, [], ◌++◌, ℕ, ◌+◌, eqb, leb, length, drop}
+use Rattle.std.specs.Prelude.{Result, Ok, Err, false, cond, not, List, [], ◌++◌, ℕ, ◌+◌, eqb, leb, length, drop}
 use Rattle.text.specs.declared.Refusal.{Refusal}
 use Rattle.assertion.specs.Graph.{Bytes, Graph, signal_bits}
 use Rattle.assertion.specs.Paths as paths
@@ -13,11 +13,11 @@ use Rattle.trace.specs.Traces.{fault_of, cycles_of}
 use Rattle.calls.specs.Refusals as calls
 use Rattle.calls.specs.Refusals.{is_short}
 use Rattle.calls.specs.declared.refusal.Cause.TheVariants.{TraceTooLong, WrongLine, ShortBuffer}
+use Rattle.calls.specs.declared.tally.Tally.{Tally}
+use Rattle.simulator.specs.declared.outcome.Verdict.{Verdict}
 use Rattle.simulator.specs.Run.{verdict_of}
 use Rattle.judge.specs.declared.Cause.{Cause}
 use Rattle.judge.specs.declared.Cause.TheVariants as cause
-use Rattle.judge.specs.declared.Judged.{Judged}
-use Rattle.judge.specs.declared.Judged.TheVariants.{Done, Refused}
 
 -- the number and line of each cause: those that build and run give it
 unfoldable pub refusal_of : Cause → Refusal
@@ -30,10 +30,10 @@ inputs_of g = 1 + signal_bits g
 
 -- what a judgement answers, and what it leaves
 pub record JudgeEnd : Type 0 where
-  pub answer : Judged
+  pub answer : Result (Tally × Verdict) Cause
   pub verdicts : List ℕ
 
-abbrev pub judge_end : Judged → List ℕ → JudgeEnd
+abbrev pub judge_end : Result (Tally × Verdict) Cause → List ℕ → JudgeEnd
 judge_end r v = record { answer = r; verdicts = v }
 
 -- the judgement of a trace by a graph, in document 01's order: the trace is too long, has a wrong line, or has more
@@ -44,16 +44,16 @@ trace_judged g trace buffer =
     let fault = fault_of (inputs_of g) trace in
     let cycles = cycles_of (inputs_of g) trace in
     let judged = paths.verdicts g [] cycles in
-    cond (not (is_short trace)) (judge_end (Refused (cause.Trace TraceTooLong)) buffer)
-    (cond (not (eqb fault 0)) (judge_end (Refused (cause.Trace (WrongLine fault))) buffer)
-    (cond (not (leb (length judged) (length buffer))) (judge_end (Refused (cause.Trace ShortBuffer)) buffer)
-    (judge_end (Done (record { cycles = length cycles; rejected = count_rejected g cycles; checked = 0 }) (verdict_of judged)) (judged ++ drop (length judged) buffer))))
+    cond (not (is_short trace)) (judge_end (Err (cause.Trace TraceTooLong)) buffer)
+    (cond (not (eqb fault 0)) (judge_end (Err (cause.Trace (WrongLine fault))) buffer)
+    (cond (not (leb (length judged) (length buffer))) (judge_end (Err (cause.Trace ShortBuffer)) buffer)
+    (judge_end (Ok (record { cycles = length cycles; rejected = count_rejected g cycles; checked = 0 }, verdict_of judged)) (judged ++ drop (length judged) buffer))))
 
 -- the graph text before the trace: refused as build refuses it
 unfoldable pub judge_as : Outcome → Bytes → List ℕ → JudgeEnd
-judge_as (refused c) trace buffer = judge_end (Refused (cause.Graph (GraphText c))) buffer
+judge_as (refused c) trace buffer = judge_end (Err (cause.Graph (GraphText c))) buffer
 judge_as (accepted g) trace buffer =
-    cond (leb (variables_of false g) 4095) (trace_judged g trace buffer) (judge_end (Refused (cause.Graph TooManyVariables)) buffer)
+    cond (leb (variables_of false g) 4095) (trace_judged g trace buffer) (judge_end (Err (cause.Graph TooManyVariables)) buffer)
 
 unfoldable pub judge_of : Bytes → Bytes → List ℕ → JudgeEnd
 judge_of text trace buffer = judge_as (graph_of text) trace buffer

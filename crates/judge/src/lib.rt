@@ -5,13 +5,13 @@
 
 ghost use Rattle.std.specs.Prelude.{◌≡◌};
 ghost use Rattle.assertion.specs.Paths.{PathsMean};
+ghost use Rattle.judge.specs.declared.Cause.TheVariants.{Graph, Trace};
 ghost use Rattle.judge.specs.Judge.{refusal_of, judge_end, judge_of};
 ghost use Rattle.judge.specs.Claims.{JudgeMeans, RefusedFor, GivenAs};
 ghost use Rattle.judge.specs.Private.Machine.{machine_judged};
 
-use builder::Built;
 use calls::Tally;
-use simulator::{RunOutcome, Verdict};
+use simulator::Verdict;
 use text::Refusal;
 
 // The most numbers of a netlist with one output: five, two for each latch and gate, of which M = 4,095 leaves 4,094, and
@@ -32,14 +32,6 @@ pub enum Cause {
     Trace(calls::Cause),
 }
 
-// What a judgement answers.
-#[derive(Clone, Copy)]
-pub enum Judged {
-    // The tally and the verdict; the verdict bytes of the cycles stand first in the buffer.
-    Done(Tally, Verdict),
-    Refused(Cause),
-}
-
 impl Cause {
     // The number and line in which a refusal is reported.
     pub fn refusal(self) -> Refusal
@@ -52,8 +44,24 @@ impl Cause {
     }
 }
 
+impl From<builder::Cause> for Cause {
+    ghost from_gives = { λ cause e. e ≡ Graph cause };
+
+    fn from(cause: builder::Cause) -> Cause {
+        Cause::Graph(cause)
+    }
+}
+
+impl From<calls::Cause> for Cause {
+    ghost from_gives = { λ cause e. e ≡ Trace cause };
+
+    fn from(cause: calls::Cause) -> Cause {
+        Cause::Trace(cause)
+    }
+}
+
 // The judgement of a netlist's run over a trace.
-fn judged_run(net: &[u16], trace: &[u8], verdicts: &mut [u8]) -> Judged
+fn judged_run(net: &[u16], trace: &[u8], verdicts: &mut [u8]) -> Result<(Tally, Verdict), Cause>
     ensures { judge_end result verdicts.new ≡ machine_judged net.now trace.now verdicts.old }
 {
     let mut latches = [0u64; MAX_LATCHES];
@@ -72,24 +80,17 @@ fn judged_run(net: &[u16], trace: &[u8], verdicts: &mut [u8]) -> Judged
         verdicts,
         started.tally,
     );
-    let outcome = ran.outcome;
-    let tally = ran.tally;
-    match outcome {
-        RunOutcome::Done(verdict) => Judged::Done(tally, verdict),
-        RunOutcome::Refused(cause) => Judged::Refused(Cause::Trace(cause)),
-    }
+    Ok((ran.tally, ran.outcome?))
 }
 
-// Judges a trace by a graph text: a verdict byte for each cycle, 1 rejected or 0 accepted.
-pub fn judge(graph: &[u8], trace: &[u8], verdicts: &mut [u8]) -> Judged
+// Judges a trace by a graph text: a verdict byte for each cycle, 1 rejected or 0 accepted, stands first in the buffer,
+// and the tally and the verdict are returned.
+pub fn judge(graph: &[u8], trace: &[u8], verdicts: &mut [u8]) -> Result<(Tally, Verdict), Cause>
     ensures verdicts_after { judge_end result verdicts.new ≡ judge_of graph.now trace.now verdicts.old }
     ensures paths { PathsMean }
     ensures judges { JudgeMeans graph.now trace.now verdicts.old verdicts.new (RefusedFor result) (GivenAs result) }
 {
     let mut net = [0u16; MAX_NUMBERS];
-    let built = builder::build(graph, false, &mut net);
-    match built {
-        Built::Gates(_) => judged_run(&net, trace, verdicts),
-        Built::Refused(cause) => Judged::Refused(Cause::Graph(cause)),
-    }
+    builder::build(graph, false, &mut net)?;
+    judged_run(&net, trace, verdicts)
 }

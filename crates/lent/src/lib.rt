@@ -9,11 +9,11 @@ ghost use Rattle.simulator.specs.Start.{start_end, start_of};
 ghost use Rattle.simulator.specs.Step.{step_end, step_of};
 ghost use Rattle.simulator.specs.Run.{run_end, run_of};
 
-use calls::Tally;
-use simulator::{RunOutcome, StartOutcome, StepOutcome};
+use calls::{Cause, Tally};
+use simulator::Verdict;
 
 // Starts a run: fills the latch words and clears the tally, which a refusal leaves as it was.
-pub fn start(net: &[u16], latches: &mut [u64], tally: &mut Tally) -> StartOutcome
+pub fn start(net: &[u16], latches: &mut [u64], tally: &mut Tally) -> Result<(), Cause>
     ensures { start_end (record { outcome = result; tally = tally.new }) latches.new ≡ start_of net.now latches.old tally.old }
 {
     let t = *tally;
@@ -29,7 +29,7 @@ pub fn step(
     latches: &mut [u64],
     values: &mut [u64],
     tally: &mut Tally,
-) -> StepOutcome
+) -> Result<(u64, u64), Cause>
     ensures { step_end (record { outcome = result; tally = tally.new }) latches.new values.new ≡ step_of net.now cycle.now latches.old values.old tally.old }
 {
     let t = *tally;
@@ -46,7 +46,7 @@ pub fn run(
     values: &mut [u64],
     verdicts: &mut [u8],
     tally: &mut Tally,
-) -> RunOutcome
+) -> Result<Verdict, Cause>
     ensures { run_end (record { outcome = result; tally = tally.new }) latches.new values.new verdicts.new ≡ run_of net.now trace.now latches.old values.old verdicts.old tally.old }
 {
     let t = *tally;

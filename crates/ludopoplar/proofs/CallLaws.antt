@@ -1,4 +1,5 @@
 -- What the clauses of build, start, step and run give the calls that are named after them. Assumes nothing.
+use Rattle.std.specs.Prelude.{Result, Ok, Err}
 use mathlib.Core.Path.{◌≡◌, refl, ap, ap₂, sym, ◌∙◌, subst}
 use mathlib.Core.Bool.{Bool, true, false, cond, not}
 use mathlib.Core.List.{List, ◌++◌}
@@ -11,8 +12,6 @@ use Rattle.circuit.specs.Checked.{gates_with}
 use Rattle.circuit.specs.Numbers.{numbers_with}
 use Rattle.builder.specs.declared.Cause as builder
 use Rattle.builder.specs.declared.Cause.TheVariants.{TooManyVariables, ShortBuffer}
-use Rattle.builder.specs.declared.Built.{Built}
-use Rattle.builder.specs.declared.Built.TheVariants.{Gates, Refused}
 use Rattle.builder.specs.Build.{variables_of, BuildEnd, build_end, build_as, build_of}
 use Rattle.builder.specs.Claims.{BuildMeans}
 use Rattle.calls.specs.declared.tally.Tally.{Tally}
@@ -28,8 +27,8 @@ use Rattle.ludopoplar.specs.CheckedRuns.{second_after}
 use Rattle.ludopoplar.specs.CallClaims.{CallBuilds, CallAnswers, CallStarts, CallSteps, CallRuns}
 
 -- ---- build: the text of an accepted build is a graph's
-module _ (checked : Bool) (text before after : List ℕ) (answer : Built) (made : ℕ) (e : build_end answer after ≡ build_of checked text before) (gates : answer ≡ Gates made) (means : BuildMeans checked text before) where
-  built : (build_of checked text before).answer ≡ Gates made
+module _ (checked : Bool) (text before after : List ℕ) (answer : Result ℕ builder.Cause) (made : ℕ) (e : build_end answer after ≡ build_of checked text before) (gates : answer ≡ Ok made) (means : BuildMeans checked text before) where
+  built : (build_of checked text before).answer ≡ Ok made
   built = sym (ap (λ (x : BuildEnd). x.answer) e) ∙ gates
 
   builds_as : (o : Outcome) → graph_of text ≡ o → CallBuilds checked text before after made
@@ -51,13 +50,13 @@ module _ (checked : Bool) (text before after : List ℕ) (answer : Built) (made 
 
 -- ---- build: a refused one leaves the buffer as it was
 record Kept (before : List ℕ) (e : BuildEnd) : Type 0 where
-  kept : (cause : builder.Cause) → e.answer ≡ Refused cause → e.net ≡ before
+  kept : (cause : builder.Cause) → e.answer ≡ Err cause → e.net ≡ before
 
-kept_if : {before : List ℕ} (b : Bool) (cause : builder.Cause) (e : BuildEnd) → Kept before e → Kept before (cond b (build_end (Refused cause) before) e)
+kept_if : {before : List ℕ} (b : Bool) (cause : builder.Cause) (e : BuildEnd) → Kept before e → Kept before (cond b (build_end (Err cause) before) e)
 kept_if true cause e k = record { kept = λ c is. refl }
 kept_if false cause e k = k
 
-kept-gates : {before : List ℕ} (n : ℕ) (net : List ℕ) → Kept before (build_end (Gates n) net)
+kept-gates : {before : List ℕ} (n : ℕ) (net : List ℕ) → Kept before (build_end (Ok n) net)
 kept-gates n net = record { kept = λ c is. let z : ◌≡◌ {A = ℕ} 0 1 = cc in absurd (omega arith) }
 
 kept_as : (checked : Bool) (o : Outcome) (before : List ℕ) → Kept before (build_as checked o before)
@@ -73,8 +72,8 @@ unfolding build_with circuits.build_as code_of build_of
 answers checked text before was end is =
     let e = build_of checked text before in
     record {
-      accepted = λ made told. is ∙ ap (λ (o : Built). circuits.build_as o e.net was) told;
-      refused = λ cause told. is ∙ ap₂ (λ (o : Built) (n : List ℕ). circuits.build_as o n was) told ((kept_as checked (graph_of text) before).kept cause told);
+      accepted = λ made told. is ∙ ap (λ (o : Result ℕ builder.Cause). circuits.build_as o e.net was) told;
+      refused = λ cause told. is ∙ ap₂ (λ (o : Result ℕ builder.Cause) (n : List ℕ). circuits.build_as o n was) told ((kept_as checked (graph_of text) before).kept cause told);
     }
 
 -- ---- start: an accepted one gives the tally of three zeros, a refused one changes nothing

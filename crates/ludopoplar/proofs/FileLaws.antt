@@ -1,4 +1,5 @@
 -- What the clauses of write and read give the calls that are named after them. Assumes nothing.
+use Rattle.std.specs.Prelude.{Result, Ok, Err}
 use mathlib.Core.Path.{◌≡◌, refl, ap, ap₂, ◌∙◌}
 use mathlib.Core.List.{List, ◌++◌}
 use Prim.Native.Nat.{ℕ, ◌<◌}
@@ -8,8 +9,6 @@ use Rattle.aiger.specs.Write as write
 use Rattle.aiger.specs.Write.{WriteEnd}
 use Rattle.aiger.proofs.WriteLaws.{no_netlist, too_short, written}
 use Rattle.aiger_file.specs.declared.Cause.{Cause}
-use Rattle.aiger_file.specs.declared.ReadOutcome.{ReadOutcome}
-use Rattle.aiger_file.specs.declared.ReadOutcome.TheVariants.{Numbers, Refused}
 use Rattle.aiger_file.specs.Read as read
 use Rattle.aiger_file.specs.Read.{ReadEnd, read_end, read_of}
 use Rattle.aiger_file.specs.Claims.{IsFile, ReadMeans}
@@ -37,19 +36,19 @@ module _ (means : ReadMeans) (text before : List ℕ) (each : (k : ℕ) → get_
   unfolding read_call
   ends e h = is ∙ ap (λ (x : ReadEnd). circuits.read_as x.answer x.net was) h
 
-  refused : (cause : Cause) → read_of text before ≡ read_end (Refused cause) before → end ≡ filled (code_of (read.refusal_of cause)) before was
+  refused : (cause : Cause) → read_of text before ≡ read_end (Err cause) before → end ≡ filled (code_of (read.refusal_of cause)) before was
   unfolding circuits.read_as
-  refused cause h = ends (read_end (Refused cause) before) h
+  refused cause h = ends (read_end (Err cause) before) h
 
-  only_as : (a : ReadOutcome) → (read_of text before).answer ≡ a → end.code ≡ 0
+  only_as : (a : Result ℕ Cause) → (read_of text before).answer ≡ a → end.code ≡ 0
       → (net : List ℕ) × IsFile text net × (end ≡ filled 0 (net ++ drop (length net) before) (length net))
   unfolding circuits.read_as code_of
-  only_as (Numbers n) h z =
-      let e : read_of text before ≡ read_end (Numbers n) (read_of text before).net = ap (λ (a : ReadOutcome). read_end a (read_of text before).net) h in
+  only_as (Ok n) h z =
+      let e : read_of text before ≡ read_end (Ok n) (read_of text before).net = ap (λ (a : Result ℕ Cause). read_end a (read_of text before).net) h in
       let x = means.only text before n (read_of text before).net each e in
-      let read : end ≡ filled 0 (read_of text before).net n = ends (read_end (Numbers n) (read_of text before).net) e in
+      let read : end ≡ filled 0 (read_of text before).net n = ends (read_end (Ok n) (read_of text before).net) e in
       (x.0, x.1, read ∙ ap₂ (filled 0) (x.4 ∙ ap (λ (k : ℕ). x.0 ++ drop k before) x.3) x.3)
-  only_as (Refused cause) h z =
+  only_as (Err cause) h z =
       let c : end.code ≡ code_of (read.refusal_of cause) = ap (λ (f : Filled). f.code) (refused cause (means.kept text before cause h)) in
       absurd (omega (arith, numbered.read-numbered cause))
 

@@ -3,6 +3,7 @@ mod NumberLaws
 mod RateLaws
 mod SessionLaws
 mod PageLaws
+mod CountLaws
 mod FileLaws
 mod CallLaws
 mod BenchLaws

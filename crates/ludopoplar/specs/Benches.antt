@@ -1,10 +1,7 @@
 -- Document 02, No. 13: the calls of a bench. A new cycle has no result; a turn's results are the machine that was stepped,
 -- or 8 where nothing waits, and its output words, which an idle turn leaves as they were. Assumes nothing.
-use Rattle.std.specs.Prelude.{◌≡◌, List, ℕ, ◌+◌, ◌*◌, ◌^◌, ◌<◌}
-use Rattle.bench_turns.specs.declared.Added.{Added}
-use Rattle.bench_turns.specs.declared.Added.TheVariants as added
-use Rattle.bench_turns.specs.declared.Turned.{Turned}
-use Rattle.bench_turns.specs.declared.Turned.TheVariants as turned
+use Rattle.std.specs.Prelude.{Option, Some, None, Result, Ok, Err, ◌≡◌, List, ℕ, ◌+◌, ◌*◌, ◌^◌, ◌<◌}
+use Rattle.bench_turns.specs.declared.Cause.{Cause}
 use Rattle.bench_turns.specs.Refusals.{refusal_of}
 use Rattle.bench_turns.specs.Add.{add_of}
 use Rattle.bench_turns.specs.Turn.{turn_of}
@@ -21,9 +18,9 @@ pub record AddCallEnd : Type 0 where
 abbrev pub add_call_end : ℕ → List ℕ → List ℕ → AddCallEnd
 add_call_end c q b = record { code = c; queues = q; bench = b }
 
-unfoldable pub add_code : Added → ℕ
-add_code added.Waiting = accepted_code
-add_code (added.Refused cause) = code_of (refusal_of cause)
+unfoldable pub add_code : Result Unit Cause → ℕ
+add_code (Ok tt) = accepted_code
+add_code (Err cause) = code_of (refusal_of cause)
 
 unfoldable pub add_call : List ℕ → List ℕ → List ℕ → List ℕ → ℕ → List ℕ → AddCallEnd
 add_call nets latches queues bench machine cycle =
@@ -44,10 +41,10 @@ pub record TurnCallEnd : Type 0 where
 abbrev pub turn_call_end : ℕ → List ℕ → List ℕ → List ℕ → List ℕ → ℕ → ℕ → ℕ → TurnCallEnd
 turn_call_end c l v q b m w s = record { code = c; latches = l; values = v; queues = q; bench = b; served = m; word = w; second = s }
 
-unfoldable pub turn_as : Turned → List ℕ → List ℕ → List ℕ → List ℕ → ℕ → ℕ → ℕ → TurnCallEnd
-turn_as turned.Idle l v q b served word second = turn_call_end accepted_code l v q b 8 word second
-turn_as (turned.Served machine first checked) l v q b served word second = turn_call_end accepted_code l v q b machine first checked
-turn_as (turned.Refused cause) l v q b served word second = turn_call_end (code_of (refusal_of cause)) l v q b served word second
+unfoldable pub turn_as : Result (Option (ℕ × ℕ × ℕ)) Cause → List ℕ → List ℕ → List ℕ → List ℕ → ℕ → ℕ → ℕ → TurnCallEnd
+turn_as (Ok None) l v q b served word second = turn_call_end accepted_code l v q b 8 word second
+turn_as (Ok (Some (machine, first, checked))) l v q b served word second = turn_call_end accepted_code l v q b machine first checked
+turn_as (Err cause) l v q b served word second = turn_call_end (code_of (refusal_of cause)) l v q b served word second
 
 unfoldable pub turn_call : List ℕ → List ℕ → List ℕ → List ℕ → List ℕ → ℕ → ℕ → ℕ → TurnCallEnd
 turn_call nets latches values queues bench served word second =

@@ -1,12 +1,11 @@
 -- Document 02, No. 7: the calls that run a netlist with the tally's third number, through a pointer of its own, and with
 -- both output words of a step. All else is as in the calls of document 01. Assumes nothing.
-use Rattle.std.specs.Prelude.{List, ℕ}
+use Rattle.std.specs.Prelude.{Result, Ok, Err, List, ℕ}
+use Rattle.calls.specs.declared.refusal.Cause.{Cause}
 use Rattle.calls.specs.declared.tally.Tally.{Tally}
-use Rattle.simulator.specs.declared.outcome.StepOutcome.{StepOutcome}
-use Rattle.simulator.specs.declared.outcome.StepOutcome.TheVariants.{Output, Refused}
-use Rattle.simulator.specs.Start.{StartEnd, start_of}
-use Rattle.simulator.specs.Step.{StepEnd, step_of}
-use Rattle.simulator.specs.Run.{RunEnd, run_of}
+use Rattle.simulator.specs.Start.{start_of}
+use Rattle.simulator.specs.Step.{step_of}
+use Rattle.simulator.specs.Run.{run_of}
 use Rattle.ludopoplar.specs.Runs.{start_code, step_code, word_after, run_code, verdict_after}
 
 -- the tally of three numbers
@@ -39,9 +38,9 @@ pub record StepCheckedEnd : Type 0 where
 abbrev pub step_checked_end : ℕ → List ℕ → List ℕ → ℕ → ℕ → ℕ → ℕ → ℕ → StepCheckedEnd
 step_checked_end c l v y j k w s = record { code = c; latches = l; values = v; tally = tally_with y j k; word = w; second = s }
 
-unfoldable pub second_after : StepOutcome → ℕ → ℕ
-second_after (Output w c) before = c
-second_after (Refused cause) before = before
+unfoldable pub second_after : Result (ℕ × ℕ) Cause → ℕ → ℕ
+second_after (Ok (w, c)) before = c
+second_after (Err cause) before = before
 
 unfoldable pub step_checked_call : List ℕ → List ℕ → List ℕ → List ℕ → ℕ → ℕ → ℕ → ℕ → ℕ → StepCheckedEnd
 step_checked_call net cycle latches values cycles rejected checked word second =

@@ -1,9 +1,8 @@
 -- What the contracts of write and read claim of what they return and leave behind their pointers: the names of
 -- document 01, and that of document 02, No. 1. Assumes nothing.
-use Rattle.std.specs.Prelude.{◌≡◌, true, false, List, ◌++◌, ℕ, ◌+◌, ◌*◌, ◌^◌, ◌≤◌, ◌<◌, length, drop}
+use Rattle.std.specs.Prelude.{Err, ◌≡◌, true, false, List, ◌++◌, ℕ, ◌+◌, ◌*◌, ◌^◌, ◌≤◌, ◌<◌, length, drop}
 use Rattle.netlist.specs.Valid.{is_netlist}
 use Rattle.aiger_file.specs.declared.Cause.{Cause}
-use Rattle.aiger_file.specs.declared.ReadOutcome.TheVariants.{Refused}
 use Rattle.aiger_file.specs.Read.{refusal_of, read_of}
 use Rattle.aiger_file.specs.Claims.{IsFile, IsWaiting}
 use Rattle.ludopoplar.specs.Circuits.{Filled, filled}
@@ -28,5 +27,5 @@ pub record CallReads (text before : List ℕ) (was : ℕ) (end : Filled) : Type 
   pub waits : IsWaiting text → end ≡ filled (23 * 2 ^ 32) before was
   pub long : 65536 < length text → end ≡ filled (1 * 2 ^ 32) before was
   pub only : end.code ≡ 0 → (net : List ℕ) × IsFile text net × (end ≡ filled 0 (net ++ drop (length net) before) (length net))
-  pub refused : (cause : Cause) → (read_of text before).answer ≡ Refused cause
+  pub refused : (cause : Cause) → (read_of text before).answer ≡ Err cause
       → end ≡ filled ((refusal_of cause).number * 2 ^ 32 + (refusal_of cause).line) before was

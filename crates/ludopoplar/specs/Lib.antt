@@ -11,3 +11,4 @@ pub mod Graphs
 pub mod FileClaims
 pub mod CallClaims
 pub mod Claims
+pub mod Private

@@ -2,20 +2,15 @@
 -- through its own, which a refusal leaves as it was. Answer, tally and buffers are those of the call's own
 -- definition, which hands the tally back as it was where it refuses. These are the names of document 01: the tally
 -- has no third number for them; one of 0 is lent, and dropped. Assumes nothing.
-use Rattle.std.specs.Prelude.{List, ℕ}
+use Rattle.std.specs.Prelude.{Result, Ok, Err, List, ℕ}
+use Rattle.calls.specs.declared.refusal.Cause.{Cause}
 use Rattle.calls.specs.declared.tally.Tally.{Tally}
-use Rattle.simulator.specs.declared.outcome.StartOutcome.{StartOutcome}
-use Rattle.simulator.specs.declared.outcome.StartOutcome.TheVariants as start
-use Rattle.simulator.specs.declared.outcome.StepOutcome.{StepOutcome}
-use Rattle.simulator.specs.declared.outcome.StepOutcome.TheVariants as step
-use Rattle.simulator.specs.declared.outcome.RunOutcome.{RunOutcome}
-use Rattle.simulator.specs.declared.outcome.RunOutcome.TheVariants as run
 use Rattle.simulator.specs.declared.outcome.Verdict.{Verdict}
 use Rattle.simulator.specs.declared.outcome.Verdict.TheVariants.{Accepted, Rejected}
 use Rattle.calls.specs.Refusals.{refusal_of}
-use Rattle.simulator.specs.Start.{StartEnd, start_of}
-use Rattle.simulator.specs.Step.{StepEnd, step_of}
-use Rattle.simulator.specs.Run.{RunEnd, run_of}
+use Rattle.simulator.specs.Start.{start_of}
+use Rattle.simulator.specs.Step.{step_of}
+use Rattle.simulator.specs.Run.{run_of}
 use Rattle.ludopoplar.specs.Codes.{accepted_code, code_of}
 
 -- the tally of two numbers
@@ -32,9 +27,9 @@ pub record StartCallEnd : Type 0 where
 abbrev pub start_call_end : ℕ → List ℕ → ℕ → ℕ → StartCallEnd
 start_call_end c l y j = record { code = c; latches = l; cycles = y; rejected = j }
 
-unfoldable pub start_code : StartOutcome → ℕ
-start_code start.Ready = accepted_code
-start_code (start.Refused cause) = code_of (refusal_of cause)
+unfoldable pub start_code : Result Unit Cause → ℕ
+start_code (Ok tt) = accepted_code
+start_code (Err cause) = code_of (refusal_of cause)
 
 unfoldable pub start_call : List ℕ → List ℕ → ℕ → ℕ → StartCallEnd
 start_call net latches cycles rejected =
@@ -53,13 +48,13 @@ pub record StepCallEnd : Type 0 where
 abbrev pub step_call_end : ℕ → List ℕ → List ℕ → ℕ → ℕ → ℕ → StepCallEnd
 step_call_end c l v y j w = record { code = c; latches = l; values = v; cycles = y; rejected = j; word = w }
 
-unfoldable pub step_code : StepOutcome → ℕ
-step_code (step.Output w c) = accepted_code
-step_code (step.Refused cause) = code_of (refusal_of cause)
+unfoldable pub step_code : Result (ℕ × ℕ) Cause → ℕ
+step_code (Ok (w, c)) = accepted_code
+step_code (Err cause) = code_of (refusal_of cause)
 
-unfoldable pub word_after : StepOutcome → ℕ → ℕ
-word_after (step.Output w c) before = w
-word_after (step.Refused cause) before = before
+unfoldable pub word_after : Result (ℕ × ℕ) Cause → ℕ → ℕ
+word_after (Ok (w, c)) before = w
+word_after (Err cause) before = before
 
 unfoldable pub step_call : List ℕ → List ℕ → List ℕ → List ℕ → ℕ → ℕ → ℕ → StepCallEnd
 step_call net cycle latches values cycles rejected word =
@@ -84,13 +79,13 @@ unfoldable pub verdict_number : Verdict → ℕ
 verdict_number Accepted = 0
 verdict_number Rejected = 1
 
-unfoldable pub run_code : RunOutcome → ℕ
-run_code (run.Done verdict) = accepted_code
-run_code (run.Refused cause) = code_of (refusal_of cause)
+unfoldable pub run_code : Result Verdict Cause → ℕ
+run_code (Ok verdict) = accepted_code
+run_code (Err cause) = code_of (refusal_of cause)
 
-unfoldable pub verdict_after : RunOutcome → ℕ → ℕ
-verdict_after (run.Done verdict) before = verdict_number verdict
-verdict_after (run.Refused cause) before = before
+unfoldable pub verdict_after : Result Verdict Cause → ℕ → ℕ
+verdict_after (Ok verdict) before = verdict_number verdict
+verdict_after (Err cause) before = before
 
 unfoldable pub run_call : List ℕ → List ℕ → List ℕ → List ℕ → List ℕ → ℕ → ℕ → ℕ → RunCallEnd
 run_call net trace latches values verdicts cycles rejected verdict =

@@ -5,10 +5,8 @@ ghost use Rattle.ludopoplar.specs.Circuits.{filled, build_checked_call};
 ghost use Rattle.ludopoplar.specs.CallClaims.{CallBuilds, CallAnswers, CallStarts, StartByThree, CallSteps, StepByThree, CallRuns, RunByThree};
 ghost use Rattle.ludopoplar.specs.CheckedRuns.{start_checked_end, start_checked_call, step_checked_end, step_checked_call, run_checked_end, run_checked_call};
 
-use crate::{ACCEPTED, code, verdict_number};
-use builder::Built;
+use crate::{ACCEPTED, code, counted, verdict_number};
 use calls::Tally;
-use simulator::{RunOutcome, StartOutcome, StepOutcome};
 
 // Builds the monitor of a graph text, with checked.
 #[unsafe(no_mangle)]
@@ -17,14 +15,8 @@ pub extern "C" fn ludo_build_checked(graph: &[u8], net: &mut [u16], gates: &mut 
     ensures demand { result ≡ 0 → CallBuilds true graph.now net.old net.new gates.new }
     ensures answers { CallAnswers true graph.now net.old gates.old (record { code = result; buffer = net.new; result = gates.new }) }
 {
-    let built = builder::build(graph, true, net);
-    match built {
-        Built::Gates(made) => {
-            *gates = made as u64;
-            ACCEPTED
-        }
-        Built::Refused(cause) => code(cause.refusal()),
-    }
+    let built = builder::build(graph, true, net).map_err(builder::Cause::refusal);
+    counted(built, gates)
 }
 
 // Fills the latch words and clears the tally.
@@ -52,8 +44,8 @@ pub extern "C" fn ludo_start_checked(
     *checked = started.tally.checked;
     let outcome = started.outcome;
     match outcome {
-        StartOutcome::Ready => ACCEPTED,
-        StartOutcome::Refused(cause) => code(cause.refusal()),
+        Ok(()) => ACCEPTED,
+        Err(cause) => code(cause.refusal()),
     }
 }
 
@@ -86,12 +78,12 @@ pub extern "C" fn ludo_step_checked(
     *checked = stepped.tally.checked;
     let outcome = stepped.outcome;
     match outcome {
-        StepOutcome::Output(first, second) => {
+        Ok((first, second)) => {
             *word = first;
             *checked_word = second;
             ACCEPTED
         }
-        StepOutcome::Refused(cause) => code(cause.refusal()),
+        Err(cause) => code(cause.refusal()),
     }
 }
 
@@ -124,10 +116,10 @@ pub extern "C" fn ludo_run_checked(
     *checked = ran.tally.checked;
     let outcome = ran.outcome;
     match outcome {
-        RunOutcome::Done(end) => {
+        Ok(end) => {
             *verdict = verdict_number(end);
             ACCEPTED
         }
-        RunOutcome::Refused(cause) => code(cause.refusal()),
+        Err(cause) => code(cause.refusal()),
     }
 }

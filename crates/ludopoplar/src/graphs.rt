@@ -5,7 +5,7 @@ ghost use Rattle.buffer_text.specs.Claims.{StrokeBuffer};
 ghost use Rattle.ludopoplar.specs.Circuits.{filled};
 ghost use Rattle.ludopoplar.specs.Graphs.{dearest_graph_call, buffer_graph_call};
 
-use crate::{ACCEPTED, code};
+use crate::counted;
 
 // Writes the dearest graph with so many edges and no operators.
 #[unsafe(no_mangle)]
@@ -13,14 +13,8 @@ pub extern "C" fn ludo_dearest_graph(edges: u64, text: &mut [u8], length: &mut u
     ensures length_after { filled result text.new length.new ≡ dearest_graph_call edges text.old length.old }
     ensures dearest { result ≡ 0 → Dearest edges (take length.new text.new) }
 {
-    let written = dearest_graph::write(edges, text);
-    match written {
-        dearest_graph::Written::Bytes(bytes) => {
-            *length = bytes as u64;
-            ACCEPTED
-        }
-        dearest_graph::Written::Refused(cause) => code(cause.refusal()),
-    }
+    let written = dearest_graph::write(edges, text).map_err(dearest_graph::Cause::refusal);
+    counted(written, length)
 }
 
 // Writes the stroke buffer's graph for so many strokes.
@@ -29,12 +23,6 @@ pub extern "C" fn ludo_buffer_graph(strokes: u64, text: &mut [u8], length: &mut 
     ensures length_after { filled result text.new length.new ≡ buffer_graph_call strokes text.old length.old }
     ensures buffer { result ≡ 0 → StrokeBuffer strokes (take length.new text.new) }
 {
-    let written = buffer_graph::write(strokes, text);
-    match written {
-        buffer_graph::Written::Bytes(size) => {
-            *length = size as u64;
-            ACCEPTED
-        }
-        buffer_graph::Written::Refused(cause) => code(cause.refusal()),
-    }
+    let written = buffer_graph::write(strokes, text).map_err(buffer_graph::Cause::refusal);
+    counted(written, length)
 }

@@ -27,6 +27,7 @@ ghost use Rattle.std.specs.Prelude.{◌≡◌, false};
 ghost use Rattle.aiger.specs.Format.{file_of};
 ghost use Rattle.packed.specs.Format.{packed_of};
 ghost use Rattle.ludopoplar.specs.Codes.{code_of};
+ghost use Rattle.ludopoplar.specs.Private.Counts.{counted_code, counted_after};
 ghost use Rattle.ludopoplar.specs.Circuits.{filled, build_call, write_call, write_packed_call, read_call};
 ghost use Rattle.ludopoplar.specs.FileClaims.{CallWrites, CallReads};
 ghost use Rattle.ludopoplar.specs.CallClaims.{CallBuilds, CallAnswers, CallStarts, StartByTwo, CallSteps, StepByTwo, CallRuns, RunByTwo};
@@ -36,14 +37,9 @@ ghost use Rattle.ludopoplar.specs.Rates.{rate_call_end, rate_call};
 ghost use Rattle.ludopoplar.specs.Sessions.{broken_check_call, trace_number, broken_line_end, broken_line_call};
 ghost use Rattle.ludopoplar.specs.Pages.{session_page_call};
 
-use aiger::Written;
-use aiger_file::ReadOutcome;
-use builder::Built;
 use calls::Tally;
-use first_broken::Checked;
-use rate::Rated;
-use session_page::Laid;
-use simulator::{RunOutcome, StartOutcome, StepOutcome, Verdict};
+use first_broken::Side;
+use simulator::Verdict;
 use text::Refusal;
 
 // A call that is accepted returns this.
@@ -57,6 +53,20 @@ fn code(refusal: Refusal) -> u64
     ensures { result ≡ code_of refusal }
 {
     refusal.number as u64 * NUMBER + refusal.line as u64
+}
+
+// Stores what an accepted call has counted, and gives the return code.
+fn counted(answer: Result<usize, Refusal>, count: &mut u64) -> u64
+    ensures code { result ≡ counted_code answer }
+    ensures count { count.new ≡ counted_after answer count.old }
+{
+    match answer {
+        Ok(n) => {
+            *count = n as u64;
+            ACCEPTED
+        }
+        Err(refusal) => code(refusal),
+    }
 }
 
 // The number of a verdict.
@@ -77,14 +87,8 @@ pub extern "C" fn ludo_build(graph: &[u8], net: &mut [u16], gates: &mut u64) -> 
     ensures answers { CallAnswers false graph.now net.old gates.old (record { code = result; buffer = net.new; result = gates.new }) }
     ensures numbered { Numbered }
 {
-    let built = builder::build(graph, false, net);
-    match built {
-        Built::Gates(made) => {
-            *gates = made as u64;
-            ACCEPTED
-        }
-        Built::Refused(cause) => code(cause.refusal()),
-    }
+    let built = builder::build(graph, false, net).map_err(builder::Cause::refusal);
+    counted(built, gates)
 }
 
 // Writes the AIGER file of a netlist in the text form.
@@ -93,14 +97,8 @@ pub extern "C" fn ludo_write(net: &[u16], text: &mut [u8], length: &mut u64) -> 
     ensures length_after { filled result text.new length.new ≡ write_call net.now text.old length.old }
     ensures writes { CallWrites (file_of net.now) net.now text.old length.old (filled result text.new length.new) }
 {
-    let written = aiger::write(net, text);
-    match written {
-        Written::Bytes(bytes) => {
-            *length = bytes as u64;
-            ACCEPTED
-        }
-        Written::Refused(cause) => code(cause.refusal()),
-    }
+    let written = aiger::write(net, text).map_err(aiger::Cause::refusal);
+    counted(written, length)
 }
 
 // Writes the AIGER file of a netlist in the packed form.
@@ -109,14 +107,8 @@ pub extern "C" fn ludo_write_packed(net: &[u16], bytes: &mut [u8], length: &mut 
     ensures length_after { filled result bytes.new length.new ≡ write_packed_call net.now bytes.old length.old }
     ensures writes { CallWrites (packed_of net.now) net.now bytes.old length.old (filled result bytes.new length.new) }
 {
-    let written = packed::write(net, bytes);
-    match written {
-        Written::Bytes(size) => {
-            *length = size as u64;
-            ACCEPTED
-        }
-        Written::Refused(cause) => code(cause.refusal()),
-    }
+    let written = packed::write(net, bytes).map_err(aiger::Cause::refusal);
+    counted(written, length)
 }
 
 // Reads the netlist of an AIGER file in either form.
@@ -125,14 +117,8 @@ pub extern "C" fn ludo_read(text: &[u8], net: &mut [u16], length: &mut u64) -> u
     ensures length_after { filled result net.new length.new ≡ read_call text.now net.old length.old }
     ensures reads { CallReads text.now net.old length.old (filled result net.new length.new) }
 {
-    let outcome = aiger_file::read(text, net);
-    match outcome {
-        ReadOutcome::Numbers(numbers) => {
-            *length = numbers as u64;
-            ACCEPTED
-        }
-        ReadOutcome::Refused(cause) => code(cause.refusal()),
-    }
+    let read = aiger_file::read(text, net).map_err(aiger_file::Cause::refusal);
+    counted(read, length)
 }
 
 // Fills the latch words and clears the tally.
@@ -157,8 +143,8 @@ pub extern "C" fn ludo_start(
     *rejected = started.tally.rejected;
     let outcome = started.outcome;
     match outcome {
-        StartOutcome::Ready => ACCEPTED,
-        StartOutcome::Refused(cause) => code(cause.refusal()),
+        Ok(()) => ACCEPTED,
+        Err(cause) => code(cause.refusal()),
     }
 }
 
@@ -188,11 +174,11 @@ pub extern "C" fn ludo_step(
     *rejected = stepped.tally.rejected;
     let outcome = stepped.outcome;
     match outcome {
-        StepOutcome::Output(output, _) => {
+        Ok((output, _)) => {
             *word = output;
             ACCEPTED
         }
-        StepOutcome::Refused(cause) => code(cause.refusal()),
+        Err(cause) => code(cause.refusal()),
     }
 }
 
@@ -223,11 +209,11 @@ pub extern "C" fn ludo_run(
     *rejected = ran.tally.rejected;
     let outcome = ran.outcome;
     match outcome {
-        RunOutcome::Done(end) => {
+        Ok(end) => {
             *verdict = verdict_number(end);
             ACCEPTED
         }
-        RunOutcome::Refused(cause) => code(cause.refusal()),
+        Err(cause) => code(cause.refusal()),
     }
 }
 
@@ -248,12 +234,12 @@ pub extern "C" fn ludo_per_million(
         checked: 0,
     });
     match rated {
-        Rated::PerMillion(rate) => {
+        Ok(rate) => {
             *whole = rate.whole as u64;
             *remainder = rate.remainder as u64;
             ACCEPTED
         }
-        Rated::Refused(cause) => code(cause.refusal()),
+        Err(cause) => code(cause.refusal()),
     }
 }
 
@@ -282,19 +268,19 @@ pub extern "C" fn ludo_broken_check(
         handle_verdicts,
     );
     match checked {
-        Checked::Fine => ACCEPTED,
-        Checked::Refused(cause) => code(cause.refusal()),
+        Ok(()) => ACCEPTED,
+        Err(cause) => code(cause.refusal()),
     }
 }
 
 // The number of a trace.
-fn trace_number(handle: bool) -> u64
-    ensures { result ≡ trace_number handle }
+fn trace_number(side: Side) -> u64
+    ensures { result ≡ trace_number side }
 {
-    if handle {
-        return 1;
+    match side {
+        Side::Flywheel => 0,
+        Side::Handle => 1,
     }
-    0
 }
 
 // Finds the line that was rejected first.
@@ -325,7 +311,7 @@ pub extern "C" fn ludo_broken_line(
         flywheel_verdicts,
         handle_verdicts,
     );
-    *trace = trace_number(found.handle);
+    *trace = trace_number(found.side);
     *offset = found.at as u64;
     *length = found.length as u64;
     ACCEPTED
@@ -343,12 +329,6 @@ pub extern "C" fn ludo_session_page(
     ensures lays { CallLays name.now verdicts.now page.old page.new result length.old length.new }
     ensures tells { CallTells name.now verdicts.now page.new result length.new }
 {
-    let laid = session_page::lay_out(name, verdicts, page);
-    match laid {
-        Laid::Bytes(end) => {
-            *length = end as u64;
-            ACCEPTED
-        }
-        Laid::Refused(cause) => code(cause.refusal()),
-    }
+    let laid = session_page::lay_out(name, verdicts, page).map_err(session_page::Cause::refusal);
+    counted(laid, length)
 }

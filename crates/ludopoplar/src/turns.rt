@@ -6,7 +6,7 @@ ghost use Rattle.bench_turns.specs.Claims.{KeepsBench};
 ghost use Rattle.ludopoplar.specs.Benches.{add_call_end, add_call, turn_call_end, turn_call, CallAdds, CallTurns};
 
 use crate::{ACCEPTED, code};
-use bench::{Added, Turned, add, refusal, turn};
+use bench::{add, refusal, turn};
 
 // The machine number of an idle turn.
 const NOBODY: u64 = 8;
@@ -29,8 +29,8 @@ pub extern "C" fn ludo_bench_add(
 {
     let added = add(nets, latches, queues, bench, machine, cycle);
     match added {
-        Added::Waiting => ACCEPTED,
-        Added::Refused(cause) => code(refusal(cause)),
+        Ok(()) => ACCEPTED,
+        Err(cause) => code(refusal(cause)),
     }
 }
 
@@ -55,16 +55,16 @@ pub extern "C" fn ludo_bench_turn(
 {
     let turned = turn(nets, latches, values, queues, bench);
     match turned {
-        Turned::Idle => {
+        Ok(None) => {
             *served = NOBODY;
             ACCEPTED
         }
-        Turned::Served(machine, first, second) => {
+        Ok(Some((machine, first, second))) => {
             *served = machine as u64;
             *word = first;
             *checked_word = second;
             ACCEPTED
         }
-        Turned::Refused(cause) => code(refusal(cause)),
+        Err(cause) => code(refusal(cause)),
     }
 }

@@ -5,7 +5,6 @@
 ghost use Rattle.std.specs.Prelude.{◌≡◌, List, ℕ, ◌≤◌, length, take};
 ghost use Rattle.page.specs.Pages.{monitor_text};
 
-use page::Paged;
 use std::io;
 
 // One byte more than an input may have: what is longer is refused, and no more of it is read.
@@ -21,13 +20,11 @@ fn page_of(input: &[u8], n: usize, out: &mut [u8]) -> usize
     ensures { (result ≤ length out.new)
         × ((s : List ℕ) → take n input.now ≡ take (length input.now) s → take result out.new ≡ monitor_text s) }
 {
-    let paged = page::monitor_page(&input[..n], out);
-    match paged {
-        Paged::Bytes(end) => end,
-        Paged::Refused(_) => 0,
-    }
+    page::monitor_page(&input[..n], out).unwrap_or(0)
 }
 
+// It stands in each program: a function of a crate would have to say what it returns, and no clause can say what standard
+// input gives and standard output takes.
 fn main(rt: HostRuntime) -> io::Result<()> {
     let mut input = [0u8; INPUT];
     let mut out = [0u8; PAGE];

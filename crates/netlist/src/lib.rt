@@ -8,9 +8,11 @@ ghost use Rattle.std.specs.Prelude.{◌≡◌};
 ghost use Rattle.netlist.specs.Valid.{is_outline, is_netlist};
 ghost use Rattle.netlist.specs.Aiger.{OutlineMeans, Means};
 
+mod header;
 pub mod literals;
 mod valid;
 
+pub use header::{HEADER, Header};
 pub use literals::{Literal, Variable};
 
 // Whether the numbers lent are a netlist but for their gates, which may be anything.

@@ -4,46 +4,13 @@ ghost use Rattle.std.specs.Prelude.{◌≡◌, true, false, cond, ◌&&◌, ◌+
 ghost use Rattle.netlist.specs.Layout.{maximum, input_count, latch_count, output_count, latch_variable};
 ghost use Rattle.netlist.specs.Literals.{literal_of};
 ghost use Rattle.netlist.specs.Lanes.{each};
-ghost use Rattle.netlist.specs.Valid.{header_ok, is_free, latch_ok, free_count, output_ok, gate_ok, is_outline, is_netlist};
+ghost use Rattle.netlist.specs.Valid.{is_free, latch_ok, free_count, output_ok, gate_ok, is_outline, is_netlist};
 
+use crate::header::{HEADER, Header};
 use crate::literals::{Literal, Variable};
-
-// The most variables, not counting variable 0.
-const MAX_VARIABLES: u16 = 4095;
-
-// The most inputs.
-const MAX_INPUTS: u16 = 64;
-
-// The most outputs.
-const MAX_OUTPUTS: u16 = 2;
 
 // The most uninitialised latches: each of their settings has one of the 64 lanes.
 const MAX_FREE: u16 = 6;
-
-// How many numbers stand before the latches.
-const HEADER: usize = 5;
-
-fn header_ok(m: u16, i: u16, l: u16, o: u16, a: u16) -> bool
-    ensures { result ≡ header_ok m i l o a }
-{
-    let sum = i as u32 + l as u32 + a as u32;
-    if m as u32 != sum {
-        return false;
-    }
-    if m > MAX_VARIABLES {
-        return false;
-    }
-    if i < 1 {
-        return false;
-    }
-    if i > MAX_INPUTS {
-        return false;
-    }
-    if o < 1 {
-        return false;
-    }
-    o <= MAX_OUTPUTS
-}
 
 // The outputs stand from `at` on; `last` is the netlist's largest literal.
 fn outputs_ok(net: &[u16], at: usize, count: u16, last: Literal) -> bool
@@ -83,7 +50,7 @@ fn free(net: &[u16], k: u16) -> u16
     ensures { result ≡ cond (is_free net.now k) 1 0 }
 {
     let at = HEADER + 2 * (k as usize) + 1;
-    if net[at] > 1 { 1 } else { 0 }
+    u16::from(net[at] > 1)
 }
 
 // The latches' variables are `first` and those that follow it.
@@ -136,27 +103,21 @@ fn gates_ok(net: &[u16], at: usize, first: u16, count: u16) -> bool
 pub(crate) fn outline(net: &[u16]) -> bool
     ensures { result ≡ is_outline net.now }
 {
+    let header = Header::of(net);
     if net.len() < HEADER {
         return false;
     }
-    let m = net[0];
-    let i = net[1];
-    let l = net[2];
-    let o = net[3];
-    let a = net[4];
-    if !header_ok(m, i, l, o, a) {
+    if !header.is_within_limits() {
         return false;
     }
-    let outputs = HEADER + 2 * (l as usize);
-    let operands = outputs + o as usize;
-    if net.len() < operands + 2 * (a as usize) {
+    if net.len() < header.size() {
         return false;
     }
-    let last = Variable(m).literal(true);
-    if !outputs_ok(net, outputs, o, last) {
+    let last = Variable(header.maximum).literal(true);
+    if !outputs_ok(net, header.output_at(), header.outputs, last) {
         return false;
     }
-    latches_ok(net, i + 1, l, last)
+    latches_ok(net, header.inputs + 1, header.latches, last)
 }
 
 // Whether the numbers lent are a netlist.
@@ -166,10 +127,7 @@ pub(crate) fn netlist(net: &[u16]) -> bool
     if !outline(net) {
         return false;
     }
-    let i = net[1];
-    let l = net[2];
-    let o = net[3];
-    let a = net[4];
-    let operands = HEADER + 2 * (l as usize) + o as usize;
-    gates_ok(net, operands, i + l + 1, a)
+    let header = Header::of(net);
+    let first = header.inputs + header.latches + 1;
+    gates_ok(net, header.operands_at(), first, header.gates)
 }

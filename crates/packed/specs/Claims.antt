@@ -1,5 +1,5 @@
 -- What the contract of write claims of a netlist's packed file and of its byte runs. Assumes nothing.
-use Rattle.std.specs.Prelude.{◌≡◌, Bool, true, false, List, [], ◌∷◌, ◌++◌, ◌⊎◌, ℕ, suc, ◌+◌, ◌*◌, ◌%◌, ◌<◌, ◌≤◌, length, get_or, take, drop}
+use Rattle.std.specs.Prelude.{Ok, Err, ◌≡◌, Bool, true, false, List, [], ◌∷◌, ◌++◌, ◌⊎◌, ℕ, suc, ◌+◌, ◌*◌, ◌%◌, ◌<◌, ◌≤◌, length, get_or, take, drop}
 use Rattle.text.specs.Quoted.{bytes}
 use Rattle.text.specs.Writer.{joined}
 use Rattle.netlist.specs.Layout.{size_of}
@@ -7,7 +7,6 @@ use Rattle.netlist.specs.Valid.{is_netlist}
 use Rattle.aiger.specs.Rows.{line}
 use Rattle.aiger.specs.Write.{refusal_of, write_end, write_as}
 use Rattle.aiger.specs.declared.Cause.TheVariants.{ShortBuffer, NotNetlist}
-use Rattle.aiger.specs.declared.Written.TheVariants.{Bytes, Refused}
 use Rattle.packed.specs.Runs.{run}
 use Rattle.packed.specs.Format.{packed_latch, packed_gate, packed_with, packed_of}
 
@@ -48,14 +47,14 @@ pub record WriteMeans : Type 0 where
       × (get_or net (5 + 2 * get_or net 2 0 + get_or net 3 0 + 2 * k + 1) 0 + e ≡ get_or net (5 + 2 * get_or net 2 0 + get_or net 3 0 + 2 * k) 0)
   -- a netlist is written where the buffer has room for its file: the file stands first, the surplus stays
   pub writes : (net text : List ℕ) → is_netlist net ≡ true → length (packed_of net) ≤ length text
-      → write_as (packed_of net) net text ≡ write_end (Bytes (length (packed_of net))) (packed_of net ++ drop (length (packed_of net)) text)
+      → write_as (packed_of net) net text ≡ write_end (Ok (length (packed_of net))) (packed_of net ++ drop (length (packed_of net)) text)
   -- and nowhere else
-  pub only : (net text : List ℕ) (n : ℕ) (after : List ℕ) → write_as (packed_of net) net text ≡ write_end (Bytes n) after
+  pub only : (net text : List ℕ) (n : ℕ) (after : List ℕ) → write_as (packed_of net) net text ≡ write_end (Ok n) after
       → (is_netlist net ≡ true) × (length (packed_of net) ≤ length text)
   -- numbers that are no netlist are 16, then a buffer without room is 12; both leave the buffer as it was
-  pub refuses : (net text : List ℕ) → is_netlist net ≡ false → write_as (packed_of net) net text ≡ write_end (Refused NotNetlist) text
+  pub refuses : (net text : List ℕ) → is_netlist net ≡ false → write_as (packed_of net) net text ≡ write_end (Err NotNetlist) text
   pub no_room : (net text : List ℕ) → is_netlist net ≡ true → length text < length (packed_of net)
-      → write_as (packed_of net) net text ≡ write_end (Refused ShortBuffer) text
+      → write_as (packed_of net) net text ≡ write_end (Err ShortBuffer) text
   pub numbered : (refusal_of NotNetlist ≡ record { number = 16; line = 0 }) × (refusal_of ShortBuffer ≡ record { number = 12; line = 0 })
   -- a buffer of 28,706 bytes has room for every file, whichever resets 0 are explicit
   pub short : (net : List ℕ) (explicit : ℕ → Bool) → is_netlist net ≡ true → length (packed_with net explicit) ≤ 28706

@@ -9,10 +9,10 @@
 // each.
 #![tactic(auto)]
 
-use answers::first_bytes;
-use output::write;
+ghost use Rattle.std.specs.Prelude.{◌<◌, ◌≤◌, length, IfSome};
+
+use answers::first;
 use std::io;
-use text::{Line, Number};
 
 mod answers;
 mod output;
@@ -26,62 +26,55 @@ const NUMBERS: usize = 8200;
 // What stands in a buffer before a call.
 const BEFORE: u16 = 60000;
 
-// Writes the line of one case, whose buffer has `room` numbers.
-fn write_case(rt: &impl Print, label: &[u8], room: usize, file: &[u8]) -> io::Result<()> {
+// A case: its label, how many numbers its buffer has, and its file.
+#[derive(Clone, Copy)]
+struct Case<'a> {
+    label: &'a [u8],
+    room: usize,
+    file: &'a [u8],
+}
+
+// The number that an input begins with, and what comes after the byte behind it.
+fn split_number(input: &[u8]) -> Option<(usize, &[u8])>
+    ensures { IfSome result (λ p. length p.1.now < length input.now) }
+{
+    let (value, next) = text::read_number(input, 0)?;
+    let (_, rest) = input.get(next..)?.split_first()?;
+    Some((value, rest))
+}
+
+// The case whose file has `size` bytes and whose line goes on with the input, and what comes after it.
+fn split_case(input: &[u8], size: usize) -> Option<(Case, &[u8])>
+    ensures { IfSome result (λ p. length p.1.now ≤ length input.now) }
+{
+    let (room, tab) = text::read_number(input, 0)?;
+    let line = input.get(tab..)?;
+    let end = line.iter().position(|&b| b == b'\n')?;
+    let label = line.get(1..end)?;
+    let (file, rest) = line[end + 1..].split_at_checked(size)?;
+    Some((Case { label, room, file }, rest))
+}
+
+// Writes the line of one case.
+fn write_case(rt: &impl Print, case: Case) -> io::Result<()> {
     let mut net = [BEFORE; NUMBERS];
-    if room <= NUMBERS {
-        write(rt, label)?;
-        answers::write_read(rt, file, &mut net[0..room], BEFORE)?;
-        write(rt, b"\n")?;
+    if case.room <= NUMBERS {
+        rt.write_all(case.label)?;
+        answers::write_read(rt, case.file, &mut net[..case.room], BEFORE)?;
+        println!(rt)?;
     }
     Ok(())
 }
 
-// The case whose file has `length` bytes and whose line goes on at a place: the place after it, or that place where
-// there is none.
-fn case_at(rt: &impl Print, input: &[u8], at: usize, length: usize) -> io::Result<usize> {
-    let Number::Read(room, tab) = text::read_number(input, at) else {
-        return Ok(at);
-    };
-    let Line::Ended(end) = text::line_at(input, tab) else {
-        return Ok(at);
-    };
-    if end <= tab {
-        return Ok(at);
-    }
-    if input.len() <= end {
-        return Ok(at);
-    }
-    let label = tab + 1;
-    let start = end + 1;
-    if input.len() - start < length {
-        return Ok(at);
-    }
-    let next = start + length;
-    write_case(rt, &input[label..end], room, &input[start..next])?;
-    Ok(next)
-}
-
-// The case at a place: the place after it, or the same place where there is none.
-fn one_case(rt: &impl Print, input: &[u8], at: usize) -> io::Result<usize> {
-    let Number::Read(length, blank) = text::read_number(input, at) else {
-        return Ok(at);
-    };
-    if input.len() <= blank {
-        return Ok(at);
-    }
-    case_at(rt, input, blank + 1, length)
-}
-
-// All cases.
+// All cases. A number that begins none is passed over.
 fn cases(rt: &impl Print, input: &[u8]) -> io::Result<()> {
-    let mut at = 0;
-    while at < input.len() {
-        let next = one_case(rt, input, at)?;
-        if next <= at {
-            return Ok(());
+    let mut rest = input;
+    while let Some((size, line)) = split_number(rest) {
+        rest = line;
+        if let Some((case, after)) = split_case(line, size) {
+            write_case(rt, case)?;
+            rest = after;
         }
-        at = next;
     }
     Ok(())
 }
@@ -89,7 +82,7 @@ fn cases(rt: &impl Print, input: &[u8]) -> io::Result<()> {
 // The cases of standard input, which a buffer has room for. It takes an array for the same reason as write_packed.
 fn read_cases(rt: &HostRuntime, input: &mut [u8; ROOM]) -> io::Result<()> {
     let n = stream::read_full(&mut rt.stdin(), input)?;
-    cases(rt, first_bytes(input, n))
+    cases(rt, first(input, n))
 }
 
 fn main(rt: HostRuntime) -> io::Result<()> {

@@ -1,5 +1,6 @@
 -- THE CLAIM: read takes exactly the packed files, reading what was written gives the same numbers, and each fault is
 -- told with its number and line. Assumes nothing.
+use Rattle.std.specs.Prelude.{Result, Ok, Err}
 use mathlib.Core.Path.{◌≡◌, refl, sym, ap, ◌∙◌}
 use mathlib.Core.Bool.{Bool, true, false, cond, not, and-false}
 use mathlib.Core.List.{List, [], ◌∷◌, ◌++◌, append_assoc, append-nil}
@@ -35,8 +36,6 @@ use Rattle.aiger_lines.proofs.TextLaws.{output-above, output-wrong}
 use Rattle.aiger_lines.proofs.NetLaws.{own-small}
 use Rattle.packed_read.specs.declared.Cause.{Cause}
 use Rattle.packed_read.specs.declared.Cause.TheVariants.{TextTooLong, ShortBuffer, FaultyLine, FaultyRun}
-use Rattle.packed_read.specs.declared.ReadOutcome.{ReadOutcome}
-use Rattle.packed_read.specs.declared.ReadOutcome.TheVariants.{Numbers, Refused}
 use Rattle.packed_read.specs.Lines.{second_at}
 use Rattle.packed_read.specs.Files.{read_packed}
 use Rattle.packed_read.specs.Read.{refusal_of, ReadEnd, read_end, max_text, read_as, read_of}
@@ -86,7 +85,7 @@ module _ (text net buf : List ℕ) (f : IsPacked text net) where
   fits : leb (length text) max_text ≡ true
   fits = rw f.is (le-leb (length (packed_with net f.explicit)) max_text (omega (arith, packed-length net f.netlist f.explicit)))
 
-  takes : length net ≤ length buf → read_of text buf ≡ read_end (Numbers (length net)) (net ++ drop (length net) buf)
+  takes : length net ≤ length buf → read_of text buf ≡ read_end (Ok (length net)) (net ++ drop (length net) buf)
   unfolding read_of read_as
   takes h = rw (fits, (complete text net f).2, le-leb (length net) (length buf) h)
 
@@ -97,10 +96,10 @@ module _ (text net buf : List ℕ) (f : IsPacked text net) where
 -- ---- nothing else is
 
 module _ (text buf : List ℕ) where
-  answers : {a b : ReadOutcome} {before after : List ℕ} → read_end a before ≡ read_end b after → a ≡ b
+  answers : {a b : Result ℕ Cause} {before after : List ℕ} → read_end a before ≡ read_end b after → a ≡ b
   answers h = ap (λ (e : ReadEnd). e.answer) h
 
-  refused-numbers : {c : Cause} {n : ℕ} {after : List ℕ} → read_end (Refused c) buf ≡ read_end (Numbers n) after → ⊥
+  refused-numbers : {c : Cause} {n : ℕ} {after : List ℕ} → read_end (Err c) buf ≡ read_end (Ok n) after → ⊥
   refused-numbers h =
       let a = answers h in
       let z : ◌≡◌ {A = ℕ} 0 1 = cc in
@@ -111,23 +110,23 @@ module _ (text buf : List ℕ) where
     File = (net : List ℕ) × IsPacked text net × (n ≡ length net) × (after ≡ net ++ drop n buf)
 
     only-room : (ns : List ℕ) (t : Bool) → IsPacked text ns
-        → cond (not t) (read_end (Refused ShortBuffer) buf) (read_end (Numbers (length ns)) (ns ++ drop (length ns) buf)) ≡ read_end (Numbers n) after → File
+        → cond (not t) (read_end (Err ShortBuffer) buf) (read_end (Ok (length ns)) (ns ++ drop (length ns) buf)) ≡ read_end (Ok n) after → File
     only-room ns true f h =
         let a = answers h in
         let e : n ≡ length ns = cc in
         (ns, f, e, rw e (sym (ap (λ (e : ReadEnd). e.net) h)))
     only-room ns false f h = absurd (refused-numbers h)
 
-    only_as : (x : Rows) → read_packed text ≡ x → read_as x buf ≡ read_end (Numbers n) after → File
+    only_as : (x : Rows) → read_packed text ≡ x → read_as x buf ≡ read_end (Ok n) after → File
     unfolding read_as
     only_as (rows ns free q) e h = only-room ns (leb (length ns) (length buf)) (sound text ns free q bytes e) h
     only_as (failed c n) e h = absurd (refused-numbers (sym (faulty_as c n buf) ∙ h))
 
-    only : read_of text buf ≡ read_end (Numbers n) after → File
+    only : read_of text buf ≡ read_end (Ok n) after → File
     unfolding read_of
     only h = go (leb (length text) max_text) h
       where
-        go : (t : Bool) → cond (not t) (read_end (Refused TextTooLong) buf) (read_as (read_packed text) buf) ≡ read_end (Numbers n) after → File
+        go : (t : Bool) → cond (not t) (read_end (Err TextTooLong) buf) (read_as (read_packed text) buf) ≡ read_end (Ok n) after → File
         go true g = only_as (read_packed text) refl g
         go false g = absurd (refused-numbers g)
 
@@ -342,7 +341,7 @@ trip net h =
       is = sym (trimmed_packed net (λ _. false));
     }
 
-back : (net buf : List ℕ) → is_netlist net ≡ true → size_of net ≤ length buf → read_of (packed_of net) buf ≡ read_end (Numbers (size_of net)) (take (size_of net) net ++ drop (size_of net) buf)
+back : (net buf : List ℕ) → is_netlist net ≡ true → size_of net ≤ length buf → read_of (packed_of net) buf ≡ read_end (Ok (size_of net)) (take (size_of net) net ++ drop (size_of net) buf)
 back net buf h l =
     let e = trimmed_length net h in
     rw e at (takes (packed_of net) (take (size_of net) net) buf (trip net h) (rw e l))

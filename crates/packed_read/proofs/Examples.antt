@@ -1,4 +1,5 @@
 -- The cases of the packed form, taken and refused: what read answers by the definitions. Assumes nothing.
+use Rattle.std.specs.Prelude.{Ok, Err}
 use mathlib.Core.Path.{◌≡◌, refl}
 use mathlib.Core.List.{List, [], ◌∷◌, ◌++◌, map}
 use Prim.Native.Nat.{ℕ}
@@ -14,7 +15,6 @@ use Rattle.aiger_lines.specs.Blocks.{behind, and_then, on_row, rows_of, end_of}
 use Rattle.aiger_lines.specs.Heads.{has_tag, headed, head_at, on_head}
 use Rattle.packed_read.specs.declared.Cause.{Cause}
 use Rattle.packed_read.specs.declared.Cause.TheVariants.{FaultyLine, FaultyRun}
-use Rattle.packed_read.specs.declared.ReadOutcome.TheVariants.{Numbers, Refused}
 use Rattle.packed_read.specs.Runs.{last, more, bytes_at, run_at}
 use Rattle.packed_read.specs.Lines.{latch_at, on_run, second_at, gate_at}
 use Rattle.packed_read.specs.Files.{in_bytes, body_of, read_packed}
@@ -22,11 +22,11 @@ use Rattle.packed_read.specs.Read.{read_end, read_as, read_of}
 
 -- a text is read as a netlist, into a buffer of just its length
 abbrev reads : List ℕ → List ℕ → Type 0
-reads text net = read_of text (map (λ _. 0) net) ≡ read_end (Numbers (length net)) net
+reads text net = read_of text (map (λ _. 0) net) ≡ read_end (Ok (length net)) net
 
 -- or refused
 abbrev refuses : List ℕ → Cause → Type 0
-refuses text cause = read_of text [] ≡ read_end (Refused cause) []
+refuses text cause = read_of text [] ≡ read_end (Err cause) []
 
 -- an input, an output that is the gate, and the gate's bytes
 abbrev gate : List ℕ → List ℕ

@@ -1,6 +1,6 @@
 -- What the line of a latch and the two byte runs of a gate say, test by test, once they were read. Assumes nothing.
+use Rattle.std.specs.Prelude.{Option, Some, None}
 use mathlib.Core.Path.{◌≡◌, sym, ap, ◌∙◌}
-use mathlib.Core.Bool.{true, false, not}
 use mathlib.Core.List.{List, [], ◌∷◌}
 use Prim.Native.Nat.{ℕ, ◌-◌, ◌≤◌, ◌<◌}
 use borrow.Author.Tests.{le-leb, lt-leb}
@@ -11,30 +11,28 @@ use Rattle.aiger_lines.specs.Fields.{either_of}
 use Rattle.aiger_lines.specs.Lines.{Row, row, fault, latch_says}
 use Rattle.aiger_lines.specs.Private.Steps.{LineIs}
 use Rattle.aiger_lines.proofs.LineLaws.{judged-wrong, judged_as}
-use Rattle.packed_read.specs.declared.RunRead.{RunRead}
-use Rattle.packed_read.specs.declared.RunRead.TheVariants.{Took, Broken}
 use Rattle.packed_read.specs.Runs.{Run, took, broken, run_at}
 use Rattle.packed_read.specs.Lines.{latch_at, on_run, second_at, gate_at}
 use Rattle.packed_read.specs.Private.Steps.{run_in}
 
 -- ---- a latch
 
-module _ (s : List ℕ) (free p : ℕ) (l : Line) (is : LineIs (either_of s 0 p) l) (last lit : ℕ) where
-  pub latch_wrong : not l.formed ≡ true → fault WrongShape ≡ latch_at s last lit free p
+module _ (s : List ℕ) (free p : ℕ) (o : Option Line) (is : LineIs (either_of s 0 p) o) (last lit : ℕ) where
+  pub latch_wrong : o ≡ None → fault WrongShape ≡ latch_at s last lit free p
   unfolding latch_at
-  latch_wrong h = judged-wrong (either_of s 0 p) l is h _
+  latch_wrong h = judged-wrong (either_of s 0 p) o is h _
 
-  pub latch_as : not l.formed ≡ false → (r : Row) → r ≡ latch_says last lit free (get_or l.values 0 0) (get_or l.values 1 0) l.next → r ≡ latch_at s last lit free p
+  pub latch_as : (l : Line) → o ≡ Some l → (r : Row) → r ≡ latch_says last lit free (get_or l.values 0 0) (get_or l.values 1 0) l.next → r ≡ latch_at s last lit free p
   unfolding latch_at
-  latch_as h r x = judged_as (either_of s 0 p) l is h _ _ (λ vs e. rw (← e 0, ← e 1) x)
+  latch_as l h r x = judged_as (either_of s 0 p) o l is h _ _ (λ vs e. rw (← e 0, ← e 1) x)
 
 -- ---- a run that was read
 
-pub run-took : {x : Run} {r : RunRead} {v q : ℕ} → run_in r ≡ x → r ≡ Took v q → x ≡ took v q
+pub run-took : {x : Run} {r : Option (ℕ × ℕ)} {v q : ℕ} → run_in r ≡ x → r ≡ Some (v, q) → x ≡ took v q
 unfolding run_in
 run-took e h = sym e ∙ ap run_in h
 
-pub run-broken : {x : Run} {r : RunRead} → run_in r ≡ x → r ≡ Broken → x ≡ broken
+pub run-broken : {x : Run} {r : Option (ℕ × ℕ)} → run_in r ≡ x → r ≡ None → x ≡ broken
 unfolding run_in
 run-broken e h = sym e ∙ ap run_in h
 

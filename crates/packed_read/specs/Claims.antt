@@ -1,6 +1,6 @@
 -- What the contract of read claims: it takes exactly the packed files, reading what was written gives the same numbers,
 -- and each fault is told with its number and line, the first in file order. Assumes nothing.
-use Rattle.std.specs.Prelude.{◌≡◌, Bool, true, false, List, [], ◌∷◌, ◌++◌, ◌⊎◌, ℕ, suc, ◌+◌, ◌-◌, ◌*◌, ◌<◌, ◌≤◌, length, get_or, take, drop}
+use Rattle.std.specs.Prelude.{Ok, Err, ◌≡◌, Bool, true, false, List, [], ◌∷◌, ◌++◌, ◌⊎◌, ℕ, suc, ◌+◌, ◌-◌, ◌*◌, ◌<◌, ◌≤◌, length, get_or, take, drop}
 use Rattle.text.specs.Quoted.{bytes}
 use Rattle.text.specs.Numbers.{digits}
 use Rattle.text.specs.Writer.{joined}
@@ -15,7 +15,6 @@ use Rattle.aiger_lines.specs.declared.Fault.{Fault}
 use Rattle.aiger_lines.specs.declared.Fault.TheVariants.{WrongShape, OutOfLimits}
 use Rattle.packed_read.specs.declared.Cause.{Cause}
 use Rattle.packed_read.specs.declared.Cause.TheVariants.{TextTooLong, ShortBuffer, FaultyLine, FaultyRun}
-use Rattle.packed_read.specs.declared.ReadOutcome.TheVariants.{Numbers, Refused}
 use Rattle.packed_read.specs.Read.{refusal_of, read_end, read_of}
 
 -- a text is a packed file of the netlist net, with some of its resets 0 explicit
@@ -39,7 +38,7 @@ to_gate net explicit k = to_output net explicit (output_count net) ++ joined (pa
 
 -- what a read is refused with, the buffer as it was
 abbrev pub Refuses : List ℕ → List ℕ → Cause → Type 0
-Refuses text buf cause = read_of text buf ≡ read_end (Refused cause) buf
+Refuses text buf cause = read_of text buf ≡ read_end (Err cause) buf
 
 -- THE CLAIM, of any text and any buffer lent
 pub record PackedMeans : Type 0 where
@@ -61,11 +60,11 @@ pub record PackedMeans : Type 0 where
       × ((k : ℕ) → to_gate net explicit (suc k) ≡ to_gate net explicit k ++ packed_gate net k) × (packed_with net explicit ≡ to_gate net explicit (get_or net 4 0))
   -- a packed file is taken where the buffer has room for its netlist: the numbers stand first, the surplus stays
   pub takes : (text net buf : List ℕ) → IsPacked text net → length net ≤ length buf
-      → read_of text buf ≡ read_end (Numbers (length net)) (net ++ drop (length net) buf)
+      → read_of text buf ≡ read_end (Ok (length net)) (net ++ drop (length net) buf)
   -- and refused as such where it has none
   pub short : (text net buf : List ℕ) → IsPacked text net → length buf < length net → Refuses text buf ShortBuffer
   -- what is taken, of bytes, is a packed file, and gives the numbers of its netlist
-  pub only : (text buf : List ℕ) (n : ℕ) (after : List ℕ) → ((k : ℕ) → get_or text k 0 < 256) → read_of text buf ≡ read_end (Numbers n) after
+  pub only : (text buf : List ℕ) (n : ℕ) (after : List ℕ) → ((k : ℕ) → get_or text k 0 < 256) → read_of text buf ≡ read_end (Ok n) after
       → (net : List ℕ) × IsPacked text net × (n ≡ length net) × (after ≡ net ++ drop n buf)
   -- a text of more than 65,536 bytes is refused as such
   pub long : (text buf : List ℕ) → 65536 < length text → Refuses text buf TextTooLong
@@ -74,7 +73,7 @@ pub record PackedMeans : Type 0 where
       → ((fault : Fault) × (line : ℕ) × Refuses text buf (FaultyLine fault line)) ⊎ ((fault : Fault) × Refuses text buf (FaultyRun fault))
   -- what was written of a netlist, whatever its surplus, reads as the same numbers
   pub back : (net buf : List ℕ) → is_netlist net ≡ true → size_of net ≤ length buf
-      → read_of (packed_of net) buf ≡ read_end (Numbers (size_of net)) (take (size_of net) net ++ drop (size_of net) buf)
+      → read_of (packed_of net) buf ≡ read_end (Ok (size_of net)) (take (size_of net) net ++ drop (size_of net) buf)
   -- two netlists with the same written text are the same
   pub same : (net other : List ℕ) → is_netlist net ≡ true → is_netlist other ≡ true → packed_of net ≡ packed_of other
       → take (size_of net) net ≡ take (size_of other) other

@@ -1,15 +1,13 @@
 -- Read of a packed file: refused with 1 where the text is over 65,536 bytes, then by its first faulty line or byte run,
 -- then with 12 where the buffer is too short; else the numbers stand first in the buffer, which keeps its surplus.
 -- Assumes nothing.
-use Rattle.std.specs.Prelude.{cond, not, List, ◌++◌, ℕ, zero, suc, leb, length, drop}
+use Rattle.std.specs.Prelude.{Result, Ok, Err, cond, not, List, ◌++◌, ℕ, zero, suc, leb, length, drop}
 use Rattle.text.specs.declared.Refusal.{Refusal}
 use Rattle.aiger_lines.specs.declared.Fault.TheVariants.{WrongShape, OutOfLimits}
 use Rattle.aiger_lines.specs.Blocks.{Rows, rows, failed}
 use Rattle.packed_read.specs.Files.{read_packed}
 use Rattle.packed_read.specs.declared.Cause.{Cause}
 use Rattle.packed_read.specs.declared.Cause.TheVariants.{TextTooLong, ShortBuffer, FaultyLine, FaultyRun}
-use Rattle.packed_read.specs.declared.ReadOutcome.{ReadOutcome}
-use Rattle.packed_read.specs.declared.ReadOutcome.TheVariants.{Numbers, Refused}
 
 -- the number and line of each cause
 unfoldable pub refusal_of : Cause → Refusal
@@ -22,10 +20,10 @@ refusal_of (FaultyRun OutOfLimits) = record { number = 14; line = 0 }
 
 -- what a read answers, and what it leaves
 pub record ReadEnd : Type 0 where
-  pub answer : ReadOutcome
+  pub answer : Result ℕ Cause
   pub net : List ℕ
 
-abbrev pub read_end : ReadOutcome → List ℕ → ReadEnd
+abbrev pub read_end : Result ℕ Cause → List ℕ → ReadEnd
 read_end r n = record { answer = r; net = n }
 
 -- the longest text
@@ -34,12 +32,12 @@ max_text = 65536
 
 -- a fault with a line is a line's, one without is a byte run's
 unfoldable pub read_as : Rows → List ℕ → ReadEnd
-read_as (failed e zero) net = read_end (Refused (FaultyRun e)) net
-read_as (failed e (suc n)) net = read_end (Refused (FaultyLine e (suc n))) net
+read_as (failed e zero) net = read_end (Err (FaultyRun e)) net
+read_as (failed e (suc n)) net = read_end (Err (FaultyLine e (suc n))) net
 read_as (rows ns free q) net =
-    cond (not (leb (length ns) (length net))) (read_end (Refused ShortBuffer) net)
-    (read_end (Numbers (length ns)) (ns ++ drop (length ns) net))
+    cond (not (leb (length ns) (length net))) (read_end (Err ShortBuffer) net)
+    (read_end (Ok (length ns)) (ns ++ drop (length ns) net))
 
 unfoldable pub read_of : List ℕ → List ℕ → ReadEnd
 read_of text net =
-    cond (not (leb (length text) max_text)) (read_end (Refused TextTooLong) net) (read_as (read_packed text) net)
+    cond (not (leb (length text) max_text)) (read_end (Err TextTooLong) net) (read_as (read_packed text) net)

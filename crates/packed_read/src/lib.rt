@@ -9,8 +9,7 @@ ghost use Rattle.packed_read.specs.Read.{refusal_of, read_end, read_of};
 ghost use Rattle.packed_read.specs.Claims.{PackedMeans};
 ghost use Rattle.packed_read.specs.Private.Steps.{cause_of};
 
-use aiger_lines::{Fault, Passed};
-use netlist::{Literal, Variable};
+use aiger_lines::Fault;
 use text::Refusal;
 
 mod files;
@@ -41,15 +40,9 @@ impl Cause {
                 number: 12,
                 line: 0,
             },
-            Cause::FaultyLine(fault, line) => match fault {
-                Fault::WrongShape => Refusal {
-                    number: 13,
-                    line: line,
-                },
-                Fault::OutOfLimits => Refusal {
-                    number: 14,
-                    line: line,
-                },
+            Cause::FaultyLine(fault, line) => Refusal {
+                number: fault.number(),
+                line: line,
             },
             Cause::FaultyRun(fault) => match fault {
                 Fault::WrongShape => Refusal {
@@ -65,69 +58,36 @@ impl Cause {
     }
 }
 
-#[derive(Clone, Copy)]
-pub enum ReadOutcome {
-    // How many numbers the netlist has.
-    Numbers(usize),
-    Refused(Cause),
+impl From<(Fault, u32)> for Cause {
+    ghost from_gives = { λ e c. c ≡ cause_of e.0 e.1 };
+
+    // Line 0 is no line, but the byte part.
+    fn from(faulty: (Fault, u32)) -> Cause {
+        if faulty.1 == 0 {
+            Cause::FaultyRun(faulty.0)
+        } else {
+            Cause::FaultyLine(faulty.0, faulty.1)
+        }
+    }
 }
 
 // The longest text.
 const MAX_TEXT: usize = 65536;
 
-// The cause of a fault: line 0 is no line, but the byte part.
-fn cause_of(fault: Fault, line: u32) -> Cause
-    ensures { result ≡ cause_of fault line }
-{
-    if line == 0 {
-        Cause::FaultyRun(fault)
-    } else {
-        Cause::FaultyLine(fault, line)
-    }
-}
-
-// Reads the netlist of a packed file to the front of a lent buffer. A first pass stores nothing, so that a
-// refusal leaves the buffer as it was.
-pub fn read(text: &[u8], net: &mut [u16]) -> ReadOutcome
+// Reads the netlist of a packed file to the front of a lent buffer, and answers how many numbers it has. A first pass
+// stores nothing, so that a refusal leaves the buffer as it was.
+pub fn read(text: &[u8], net: &mut [u16]) -> Result<usize, Cause>
     ensures net_after { read_end result net.new ≡ read_of text.now net.old }
     ensures bytes { (k : ℕ) → get_or text.now k 0 < 256 }
     ensures exact { PackedMeans }
 {
     if text.len() > MAX_TEXT {
-        return ReadOutcome::Refused(Cause::TextTooLong);
+        return Err(Cause::TextTooLong);
     }
-    match files::read_file(text, &mut net[..0]) {
-        Passed::Past(end) => {
-            if end.place > net.len() {
-                return ReadOutcome::Refused(Cause::ShortBuffer);
-            }
-            files::read_file(text, net);
-            ReadOutcome::Numbers(end.place)
-        }
-        Passed::Failed(fault, line) => ReadOutcome::Refused(cause_of(fault, line)),
+    let end = files::read_file(text, &mut net[..0])?;
+    if end.place > net.len() {
+        return Err(Cause::ShortBuffer);
     }
-}
-
-// A byte run that was read: its number and the place after it; or no run.
-#[derive(Clone, Copy)]
-enum RunRead {
-    Took(usize, usize),
-    Broken,
-}
-
-// What follows the header: latches, outputs and gates. Latches and gates have the variable of the first one,
-// latches and outputs the largest literal.
-#[derive(Clone, Copy)]
-enum Kind {
-    Latch(Variable, Literal),
-    Output(Literal),
-    Gate(Variable),
-}
-
-// Lines, or gates, of one kind: how many, and the line number of the first.
-#[derive(Clone, Copy)]
-struct Block {
-    kind: Kind,
-    count: u16,
-    line: u32,
+    files::read_file(text, net)?;
+    Ok(end.place)
 }

@@ -1,4 +1,5 @@
 -- What the answers of build and of judge and the buffers that they left give a page. Assumes nothing.
+use Rattle.std.specs.Prelude.{Result, Ok, Err}
 use mathlib.Core.Path.{◌≡◌, refl, sym, ap, ◌∙◌}
 use mathlib.Core.Bool.{Bool, true, false, cond}
 use mathlib.Core.List.{List, [], ◌++◌}
@@ -11,8 +12,6 @@ use Rattle.assertion.specs.Graph.{Bytes, Graph}
 use Rattle.assertion.specs.Paths.{verdicts, count_rejected}
 use Rattle.graph.specs.Reading.{graph_of}
 use Rattle.builder.specs.declared.Cause.{Cause}
-use Rattle.builder.specs.declared.Built.{Built}
-use Rattle.builder.specs.declared.Built.TheVariants.{Gates, Refused}
 use Rattle.builder.specs.Build.{refusal_of, build_end, build_of}
 use Rattle.builder.specs.Claims.{BuildMeans}
 use Rattle.calls.specs.declared.refusal.Cause.TheVariants.{WrongLine}
@@ -22,9 +21,8 @@ use Rattle.trace.specs.Traces.{fault_of, cycles_of}
 use Rattle.simulator.specs.declared.outcome.Verdict.{Verdict}
 use Rattle.simulator.specs.Run.{verdict_of}
 use Rattle.demand.proofs.Held.{verdicts-length}
+use Rattle.judge.specs.declared.Cause as judge_cause
 use Rattle.judge.specs.declared.Cause.TheVariants.{Trace}
-use Rattle.judge.specs.declared.Judged.{Judged}
-use Rattle.judge.specs.declared.Judged.TheVariants as judged
 use Rattle.judge.specs.Judge as judge
 use Rattle.judge.specs.Judge.{inputs_of, JudgeEnd, judge_end, trace_judged, judge_of}
 use Rattle.judge.proofs.BuildLaws.{build_answered, build_left}
@@ -37,15 +35,15 @@ use Rattle.page.proofs.BuildLaws.{told, page_end_lem, build_refused, made_netlis
 
 -- ---- a build into a buffer that has room for every netlist
 
-module _ (text : Bytes) {room : List ℕ} (means : BuildMeans false text room) {r : Built} {net : List ℕ} (e : build_end r net ≡ build_of false text room)
+module _ (text : Bytes) {room : List ℕ} (means : BuildMeans false text room) {r : Result ℕ Cause} {net : List ℕ} (e : build_end r net ≡ build_of false text room)
     (enough : 8194 ≤ length room) where
-  pub refused-text : (print : Graph → Bytes) {cause : Cause} → r ≡ Refused cause → refused_line (refusal_of cause) ≡ graph_page (graph_of text) print
+  pub refused-text : (print : Graph → Bytes) {cause : Cause} → r ≡ Err cause → refused_line (refusal_of cause) ≡ graph_page (graph_of text) print
   refused-text print {cause} h = sym (build_refused room enough text print cause (build_answered text room e h))
 
-  pub netlist-text : {made : ℕ} → r ≡ Gates made → is_netlist net ≡ true
+  pub netlist-text : {made : ℕ} → r ≡ Ok made → is_netlist net ≡ true
   netlist-text {made} h = rw (build_left text room e) at (made_netlist room enough text means made (build_answered text room e h))
 
-  pub file_text_lem : (packed : Bool) {made : ℕ} → r ≡ Gates made → file_in packed net ≡ file_text packed text
+  pub file_text_lem : (packed : Bool) {made : ℕ} → r ≡ Ok made → file_in packed net ≡ file_text packed text
   file_text_lem packed {made} h = rw (build_left text room e) at (made_file room enough text means made (build_answered text room e h) packed)
 
   pub file-within : (packed : Bool) → length (file_text packed text) ≤ 65536
@@ -55,9 +53,9 @@ module _ (text : Bytes) {room : List ℕ} (means : BuildMeans false text room) {
 
 module _ (show : Tally → Verdict → List ℕ → Bytes) where
   -- what is printed of an answer, with the verdict buffer as it was left
-  unfoldable pub answer_text : Judged → List ℕ → Bytes
-  answer_text (judged.Done t v) bytes = show t v (take t.cycles bytes)
-  answer_text (judged.Refused c) bytes = refused_line (judge.refusal_of c)
+  unfoldable pub answer_text : Result (Tally × Verdict) judge_cause.Cause → List ℕ → Bytes
+  answer_text (Ok (t, v)) bytes = show t v (take t.cycles bytes)
+  answer_text (Err c) bytes = refused_line (judge.refusal_of c)
 
   -- and of a trace by a graph, a wrong line being told
   abbrev pub trace_text : Bytes → Graph → Bytes
@@ -88,11 +86,11 @@ module _ (show : Tally → Verdict → List ℕ → Bytes) where
         wrong = fault_of (inputs_of g) trace
 
         go : (b : Bool)
-            → of_end (cond b (judge_end (judged.Done t (verdict_of bytes)) (bytes ++ drop (length bytes) buffer)) (judge_end (judged.Refused (Trace (WrongLine wrong))) buffer))
+            → of_end (cond b (judge_end (Ok (t, verdict_of bytes)) (bytes ++ drop (length bytes) buffer)) (judge_end (Err (Trace (WrongLine wrong))) buffer))
             ≡ cond b (show t (verdict_of bytes) bytes) (refused_line (calls.refusal_of (WrongLine wrong)))
         go true = ap (show t (verdict_of bytes)) (take_at bytes (drop (length bytes) buffer) (length cycles) (verdicts-length g [] cycles))
         go false = refl
 
-    pub judged-text : {r : Judged} {left : List ℕ} → judge_end r left ≡ judge_of text trace buffer → answer_text r left ≡ graph_page (graph_of text) (trace_text trace)
+    pub judged-text : {r : Result (Tally × Verdict) judge_cause.Cause} {left : List ℕ} → judge_end r left ≡ judge_of text trace buffer → answer_text r left ≡ graph_page (graph_of text) (trace_text trace)
     unfolding answer_text judge.refusal_of
     judged-text e = ap of_end e ∙ judge_end_lem text trace buffer of_end (trace_text trace) told trace_end (λ c. refl) ∙ sym (page_end_lem (trace_text trace) (graph_of text))

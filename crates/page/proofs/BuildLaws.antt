@@ -1,5 +1,6 @@
 -- The page of a graph text, by its build into a buffer that has room for every netlist, and what either file of a netlist
 -- is settled by. Assumes nothing.
+use Rattle.std.specs.Prelude.{Ok, Err}
 use mathlib.Core.Path.{◌≡◌, refl, ap, sym, ◌∙◌}
 use mathlib.Core.Bool.{Bool, true, false}
 use mathlib.Core.List.{List, ◌++◌}
@@ -20,10 +21,8 @@ use Rattle.packed.specs.Format.{packed_of}
 use Rattle.packed.proofs.FormatLaws.{trimmed_packed}
 use Rattle.packed.proofs.ClaimLaws as packed
 use Rattle.builder.specs.declared.Cause.{Cause}
-use Rattle.builder.specs.declared.Built.TheVariants.{Gates, Refused}
 use Rattle.builder.specs.Build.{refusal_of, build_of}
 use Rattle.builder.specs.Claims.{BuildMeans}
-use Rattle.demand.specs.Demand.{Demand3}
 use Rattle.judge.proofs.BuildLaws as judge
 use Rattle.judge.proofs.BuildLaws.{numbers-length, graph_end, build_made, made_end, made_demand}
 use Rattle.page_text.specs.Lines.{refused_line}
@@ -53,12 +52,12 @@ file-short true net h = omega (arith, (packed.write_means).short net (λ k. fals
 file-short false net h = (aiger.write_means).short net h
 
 module _ (room : List ℕ) (enough : 8194 ≤ length room) (text : Bytes) where
-  pub build_refused : (print : Graph → Bytes) (cause : Cause) → (build_of false text room).answer ≡ Refused cause
+  pub build_refused : (print : Graph → Bytes) (cause : Cause) → (build_of false text room).answer ≡ Err cause
       → graph_page (graph_of text) print ≡ told cause
   build_refused print cause h = page_end_lem print (graph_of text) ∙ judge.build_refused room enough print told cause text h
 
   -- ---- what demand 3 says of the numbers that an accepted build leaves
-  module _ (means : BuildMeans false text room) (made : ℕ) (h : (build_of false text room).answer ≡ Gates made) where
+  module _ (means : BuildMeans false text room) (made : ℕ) (h : (build_of false text room).answer ≡ Ok made) where
     pub made_netlist : is_netlist (build_of false text room).net ≡ true
     made_netlist = (made_demand room enough text made h means).netlist
 

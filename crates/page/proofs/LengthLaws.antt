@@ -1,4 +1,5 @@
 -- How long a page is at most: 250,991 bytes for the monitor's, 65,536 for those of AIGER files. Assumes nothing.
+use Rattle.std.specs.Prelude.{Ok}
 use mathlib.Core.Path.{◌≡◌, refl, ap, ◌∙◌}
 use mathlib.Core.Bool.{Bool, true, false, cond}
 use mathlib.Core.List.{List, [], ◌∷◌, ◌++◌}
@@ -9,7 +10,6 @@ use borrow.Author.Tests.{leb-true, le-leb, ltb-true, ltb-false}
 use lib.Dec.{eqb, leb, ltb}
 use lib.ListN.{length, get_or, take, length-append, length-take, length-drop}
 use Rattle.text.specs.declared.Refusal.{Refusal}
-use Rattle.text.specs.Numbers.{digits}
 use Rattle.text.specs.Writer.{joined}
 use Rattle.text.proofs.NumberLaws.{tens, digits-length}
 use Rattle.assertion.specs.Lists.{any, lists}
@@ -23,9 +23,7 @@ use Rattle.circuit.specs.Numbers.{numbers_of}
 use Rattle.builder.specs.Build as build
 use Rattle.builder.specs.Build.{variables_of, build_as, build_of}
 use Rattle.builder.specs.Claims.{BuildMeans}
-use Rattle.builder.specs.declared.Cause.{Cause}
 use Rattle.builder.specs.declared.Cause.TheVariants.{TooManyVariables}
-use Rattle.builder.specs.declared.Built.TheVariants.{Gates}
 use Rattle.simulator.specs.declared.outcome.Verdict.{Verdict}
 use Rattle.simulator.specs.declared.outcome.Verdict.TheVariants.{Accepted, Rejected}
 use Rattle.calls.specs.declared.refusal.Cause.TheVariants.{WrongLine}
@@ -236,7 +234,7 @@ module _ (input : Bytes) where
 
 -- ---- the page of an AIGER file
 module _ (buffer : List ℕ) (enough : 8194 ≤ length buffer) (text : Bytes) (means : BuildMeans false text buffer) where
-  builds : (g : Graph) → graph_of text ≡ accepted g → variables_of false g ≤ 4095 → (build_of false text buffer).answer ≡ Gates (length (gates_of g))
+  builds : (g : Graph) → graph_of text ≡ accepted g → variables_of false g ≤ 4095 → (build_of false text buffer).answer ≡ Ok (length (gates_of g))
   unfolding build_of build_as
   builds g e l = rw (e, le-leb (variables_of false g) 4095 l, le-leb (length (numbers_of g)) (length buffer) (omega (arith, numbers-most g l)))
 

@@ -1,8 +1,10 @@
 -- What the programs need of a page: one that fits stands whole at the front of its buffer, and of an input no more
 -- need be read than tells that it is too long. Assumes nothing.
+use Rattle.std.specs.Prelude.{Result, Ok}
+use Rattle.std.specs.Result.{result_unwrap_or}
 use mathlib.Core.Path.{◌≡◌, refl, ap, ap₂, sym, ◌∙◌}
 use mathlib.Core.List.{List, ◌++◌}
-use Prim.Native.Nat.{ℕ, ◌≤◌, ◌<◌}
+use Prim.Native.Nat.{ℕ, ◌≤◌}
 use native.Mathlib.Decide.{dec_le}
 use native.Mathlib.Omega.{arith}
 use borrow.Author.Tests.{le-leb, lt-ltb}
@@ -13,29 +15,26 @@ use Rattle.graph.specs.Reading.{graph_of}
 use Rattle.circuit.specs.Numbers.{numbers_of}
 use Rattle.aiger.specs.Format.{file_of}
 use Rattle.packed.specs.Format.{packed_of}
-use Rattle.page.specs.declared.Paged.{Paged}
-use Rattle.page.specs.declared.Paged.TheVariants.{Bytes, Refused}
 use Rattle.page.specs.declared.Cause.{Cause}
 use Rattle.page.specs.Pages.{graph_page, monitor_text, aiger_text, packed_text, PageEnd, page_end, page_of}
 use Rattle.page.proofs.PageLaws.{long-text}
 
 -- a program prints the page `text` of its input, which k bytes settle: n bytes were read into a buffer of k, the page
 -- went into a buffer of `most` bytes, and none is longer
-module _ (text : List ℕ → List ℕ) (k most : ℕ) (cut : (s : List ℕ) → text (take k s) ≡ text s) (buffer : List ℕ) (n : ℕ) (out : List ℕ) {left : List ℕ} {r : Paged}
+module _ (text : List ℕ → List ℕ) (k most : ℕ) (cut : (s : List ℕ) → text (take k s) ≡ text s) (buffer : List ℕ) (n : ℕ) (out : List ℕ) {left : List ℕ} {r : Result ℕ Cause}
     (e : page_end r left ≡ page_of (text (take n buffer)) out) (fits : length (text (take n buffer)) ≤ most) (room : length out ≡ most) (whole : length buffer ≡ k) where
   abbrev page : List ℕ
   page = text (take n buffer)
 
-  ends : page_end r left ≡ page_end (Bytes (length page)) (page ++ drop (length page) out)
+  ends : page_end r left ≡ page_end (Ok (length page)) (page ++ drop (length page) out)
   unfolding page_of
   ends = e ∙ rw (le-leb (length page) (length out) (omega arith))
 
   -- the answer is the page's length, which stands first in the buffer
-  pub printed : {end : ℕ} → r ≡ Bytes end
+  pub printed : {end : ℕ} → end ≡ result_unwrap_or r 0
       → (end ≤ length left) × ((s : List ℕ) → take n buffer ≡ take (length buffer) s → take end left ≡ text s)
   printed {end} h =
-      let is : r ≡ Bytes (length page) = ap (λ (p : PageEnd). p.answer) ends in
-      let same : end ≡ length page = cc in
+      let same : end ≡ length page = h ∙ ap (λ (p : PageEnd). result_unwrap_or p.answer 0) ends in
       let all : left ≡ page ++ drop (length page) out = ap (λ (p : PageEnd). p.out) ends in (
         omega (arith, ap length all, length-append page (drop (length page) out)),
         λ s d.
@@ -44,12 +43,6 @@ module _ (text : List ℕ → List ℕ) (k most : ℕ) (cut : (s : List ℕ) →
             ∙ ap text (d ∙ ap (λ (m : ℕ). take m s) whole)
             ∙ cut s,
       )
-
-  -- no page is refused
-  pub never : {cause : Cause} → r ≡ Refused cause → {A : Type 0} → A
-  never h =
-      let is : r ≡ Bytes (length page) = ap (λ (p : PageEnd). p.answer) ends in
-      let z : ◌≡◌ {A = ℕ} 0 1 = cc in absurd (omega arith)
 
 -- the first 65,537 bytes of an input give its page
 pub monitor_cut : (s : List ℕ) → monitor_text (take 65537 s) ≡ monitor_text s

@@ -1,5 +1,6 @@
 -- How long an accepted graph text is at least: four bytes for each vertex and twelve for each edge; and that a refused
 -- one names a line that it has. Assumes nothing.
+use Rattle.std.specs.Prelude.{is_some, Result, Ok, Err}
 use mathlib.Core.Path.{◌≡◌, refl, subst}
 use mathlib.Core.Bool.{Bool, true, false}
 use mathlib.Core.List.{List, [], ◌∷◌, ◌++◌}
@@ -8,20 +9,17 @@ use native.Mathlib.Omega.{arith}
 use borrow.Author.Tests.{ltb-false, eqb-false}
 use lib.Dec.{eqb, ltb, leb}
 use lib.ListN.{length, length-append}
-use Rattle.text.specs.declared.Refusal.{Refusal}
 use Rattle.text.specs.Quoted.{bytes}
 use Rattle.formula.specs.Classes.{pick, is_name}
-use Rattle.formula.specs.Grammar.{none, and_then, operand_of, expression_of, whole, tree_of}
+use Rattle.formula.specs.Grammar.{and_then, operand_of, expression_of, whole, tree_of}
 use Rattle.assertion.specs.Graph.{Bytes, Edge, Graph, signal_bits, constant_bits}
 use Rattle.assertion.specs.declared.Mode.{Mode}
 use Rattle.assertion.specs.declared.Mode.TheVariants.{Terminal, Strong}
 use Rattle.graph.specs.declared.Fault.{Fault}
 use Rattle.graph.specs.declared.Fault.TheVariants.{WrongShape, WrongOrder, TooMany, NameRepeated, UnknownVertex, NotFormula, TooDeep, UnknownName, WrongWidth}
-use Rattle.graph.specs.declared.Judged.{Judged}
-use Rattle.graph.specs.declared.Judged.TheVariants.{Fine, Faulty}
 use Rattle.graph.specs.declared.Cause.{Cause}
 use Rattle.graph.specs.declared.Cause.TheVariants.{TextTooLong, FaultyLine, NoVertex}
-use Rattle.graph.specs.Pieces.{onto, split, same, look_up, Declared, look_up_name}
+use Rattle.graph.specs.Pieces.{onto, split, same, look_up, place_of, Declared, look_up_name}
 use Rattle.graph.specs.Records.{Record, shapeless, mode, signal, constant, vertex, edge, moded, width_of, sized, named, marked, edged, of_fields, record_of}
 use Rattle.graph.specs.Reading.{refusal_of, fault_number, names_of, judged_tree, judged_formula, lower, Step, fault, went, mode_lines, add_mode, sized_name, add_signal, add_constant, add_vertex, edge_of, unless_faulty, judge_edge, add_edge, add, refused, accepted, finished, read_lines, nothing, graph_of}
 
@@ -86,14 +84,14 @@ module _ (g : Graph) (t : ℕ) where
   signal_adds : (n : Bytes) (w : ℕ) → Adds g t (add_signal g n w)
   unfolding add_signal size
   signal_adds n w =
-      adds_tested g t (ltb 0 (length g.constants + length g.vertices + length g.edges)) (ltb 63 (signal_bits g + w)) (look_up_name n (names_of g)).known
+      adds_tested g t (ltb 0 (length g.constants + length g.vertices + length g.edges)) (ltb 63 (signal_bits g + w)) (is_some (look_up_name n (names_of g)))
       WrongOrder TooMany NameRepeated
       (record { mode = g.mode; signals = g.signals ++ (sized_name n w ∷ []); constants = g.constants; vertices = g.vertices; edges = g.edges }) same_size
 
   constant-adds : (n : Bytes) (w : ℕ) → Adds g t (add_constant g n w)
   unfolding add_constant size
   constant-adds n w =
-      adds_tested g t (ltb 0 (length g.vertices + length g.edges)) (ltb 6 (constant_bits g + w)) (look_up_name n (names_of g)).known
+      adds_tested g t (ltb 0 (length g.vertices + length g.edges)) (ltb 6 (constant_bits g + w)) (is_some (look_up_name n (names_of g)))
       WrongOrder TooMany NameRepeated
       (record { mode = g.mode; signals = g.signals; constants = g.constants ++ (sized_name n w ∷ []); vertices = g.vertices; edges = g.edges }) same_size
 
@@ -101,40 +99,40 @@ module _ (g : Graph) (t : ℕ) where
   unfolding add_vertex size
   vertex-adds n h =
       let l : 4 * length (g.vertices ++ (n ∷ [])) + 12 * length g.edges ≤ size g + t = omega (arith, length-append g.vertices (n ∷ [])) in
-      adds_tested g t (ltb 0 (length g.edges)) (leb 64 (length g.vertices)) (look_up n g.vertices).known
+      adds_tested g t (ltb 0 (length g.edges)) (leb 64 (length g.vertices)) (is_some (look_up n g.vertices))
       WrongOrder TooMany NameRepeated
       (record { mode = g.mode; signals = g.signals; constants = g.constants; vertices = g.vertices ++ (n ∷ []); edges = g.edges }) l
 
   -- an edge that was taken has two formulas, and none is empty
-  fine-some : (ns : List Declared) (s : Bytes) → judged_formula ns s ≡ Fine → 1 ≤ length s
+  fine-some : (ns : List Declared) (s : Bytes) → judged_formula ns s ≡ (Ok tt) → 1 ≤ length s
   unfolding judged_tree tree_of whole expression_of operand_of and_then
   fine-some ns [] e = let z : ◌≡◌ {A = ℕ} 0 1 = cc in absurd (omega arith)
   fine-some ns (b ∷ s) e = omega arith
 
-  both-fine : (a b : Judged) → lower a b ≡ Fine → (a ≡ Fine) × (b ≡ Fine)
+  both-fine : (a b : Result Unit Fault) → lower a b ≡ (Ok tt) → (a ≡ (Ok tt)) × (b ≡ (Ok tt))
   unfolding lower
-  both-fine Fine b e = (refl, e)
-  both-fine (Faulty f) Fine e = let z : ◌≡◌ {A = ℕ} 0 1 = cc in absurd (omega arith)
-  both-fine (Faulty f) (Faulty k) e = let z : ◌≡◌ {A = ℕ} 0 1 = cc in absurd (omega arith)
+  both-fine (Ok tt) b e = (refl, e)
+  both-fine (Err f) (Ok tt) e = let z : ◌≡◌ {A = ℕ} 0 1 = cc in absurd (omega arith)
+  both-fine (Err f) (Err k) e = let z : ◌≡◌ {A = ℕ} 0 1 = cc in absurd (omega arith)
 
-  fine-adds : (j : Judged) (e : Edge) → (j ≡ Fine → 12 ≤ t) → Adds g t (unless_faulty j g e)
+  fine-adds : (j : Result Unit Fault) (e : Edge) → (j ≡ (Ok tt) → 12 ≤ t) → Adds g t (unless_faulty j g e)
   unfolding unless_faulty size
-  fine-adds Fine e h =
+  fine-adds (Ok tt) e h =
       let k = h refl in
       let l : 4 * length g.vertices + 12 * length (g.edges ++ (e ∷ [])) ≤ size g + t = omega (arith, length-append g.edges (e ∷ [])) in
       adds-graph g t (record { mode = g.mode; signals = g.signals; constants = g.constants; vertices = g.vertices; edges = g.edges ++ (e ∷ []) }) l
-  fine-adds (Faulty f) e h = adds-fault g t f
+  fine-adds (Err f) e h = adds-fault g t f
 
   edge-adds : (f v : Bytes) (m : Bool) (a c : Bytes) → (1 ≤ length a → 1 ≤ length c → 12 ≤ t) → Adds g t (add_edge g f v m a c)
   unfolding add_edge judge_edge
   edge-adds f v m a c h =
-      tested (leb 128 (length g.edges)) (look_up f g.vertices).known (look_up v g.vertices).known
+      tested (leb 128 (length g.edges)) (is_some (look_up f g.vertices)) (is_some (look_up v g.vertices))
       (lower (judged_formula (names_of g) a) (judged_formula (names_of g) c))
-      (edge_of g (look_up f g.vertices).place (look_up v g.vertices).place m a c)
+      (edge_of g (place_of f g.vertices) (place_of v g.vertices) m a c)
       (λ e. let p = both-fine (judged_formula (names_of g) a) (judged_formula (names_of g) c) e in
       h (fine-some (names_of g) a p.0) (fine-some (names_of g) c p.1))
     where
-      tested : (x y z : Bool) (j : Judged) (e : Edge) → (j ≡ Fine → 12 ≤ t)
+      tested : (x y z : Bool) (j : Result Unit Fault) (e : Edge) → (j ≡ (Ok tt) → 12 ≤ t)
           → Adds g t (pick x (fault TooMany) (pick y (pick z (unless_faulty j g e) (fault UnknownVertex)) (fault UnknownVertex)))
       tested true y z j e k = adds-fault g t TooMany
       tested false false z j e k = adds-fault g t UnknownVertex

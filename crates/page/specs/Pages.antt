@@ -1,7 +1,7 @@
 -- The pages of the programs monitor, graph2aiger and graph2aig. A refusal of what a page needs is the page's text; a page
 -- itself is refused only where it does not fit into the buffer. Which cycles are rejected is said by paths. Assumes
 -- nothing.
-use Rattle.std.specs.Prelude.{◌≡◌, ◌⊎◌, false, cond, List, [], ◌++◌, ℕ, ◌<◌, ◌≤◌, eqb, leb, length, drop}
+use Rattle.std.specs.Prelude.{Result, Ok, Err, ◌≡◌, ◌⊎◌, false, cond, List, [], ◌++◌, ℕ, ◌<◌, ◌≤◌, eqb, leb, length, drop}
 use Rattle.text.specs.declared.Refusal.{Refusal}
 use Rattle.text.specs.Quoted.{bytes}
 use Rattle.text.specs.Writer.{joined}
@@ -28,8 +28,6 @@ use Rattle.page.specs.declared.Cause.{Cause}
 use Rattle.page.specs.declared.Cause.TheVariants.{ShortBuffer}
 use Rattle.page.specs.declared.InputFault.{InputFault}
 use Rattle.page.specs.declared.InputFault.TheVariants.{TooLong}
-use Rattle.page.specs.declared.Paged.{Paged}
-use Rattle.page.specs.declared.Paged.TheVariants as paged
 
 -- the number and line of each cause
 unfoldable pub refusal_of : Cause → Refusal
@@ -93,13 +91,13 @@ pub record FilePage (file : List ℕ → Bytes) (input page : Bytes) : Type 0 wh
 
 -- ---- a page in a lent buffer, which keeps its surplus; refused with 12 where it is too short
 pub record PageEnd : Type 0 where
-  pub answer : Paged
+  pub answer : Result ℕ Cause
   pub out : List ℕ
 
-abbrev pub page_end : Paged → List ℕ → PageEnd
+abbrev pub page_end : Result ℕ Cause → List ℕ → PageEnd
 page_end r o = record { answer = r; out = o }
 
 unfoldable pub page_of : Bytes → List ℕ → PageEnd
 page_of page out =
-    cond (leb (length page) (length out)) (page_end (paged.Bytes (length page)) (page ++ drop (length page) out))
-    (page_end (paged.Refused ShortBuffer) out)
+    cond (leb (length page) (length out)) (page_end (Ok (length page)) (page ++ drop (length page) out))
+    (page_end (Err ShortBuffer) out)

@@ -1,2 +1,3 @@
 -- Definitions that only contracts of private functions cite, here or in a crate above.
 pub mod Files
+pub mod Putting

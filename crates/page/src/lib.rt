@@ -5,22 +5,18 @@
 // rejected exactly if there is one; and that the other pages are the file of the graph's monitor, or its refusal.
 #![tactic(auto)]
 
-ghost use Rattle.std.specs.Prelude.{◌≡◌, true, ◌≤◌, length};
-ghost use Rattle.netlist.specs.Valid.{is_netlist};
+ghost use Rattle.std.specs.Prelude.{◌≡◌, Bool, List, [], ℕ, ◌≤◌, length};
 ghost use Rattle.assertion.specs.Paths.{PathsMean};
 ghost use Rattle.graph.specs.Reading.{graph_of};
 ghost use Rattle.aiger.specs.Format.{file_of};
 ghost use Rattle.packed.specs.Format.{packed_of};
-ghost use Rattle.aiger.specs.Write.{write_end, write_as};
 ghost use Rattle.page_text.specs.Lines.{refused_line, report};
 ghost use Rattle.page.specs.Pages.{refusal_of, input_refusal, JudgementMeans, graph_page, trace_page, page_end, page_of, monitor_text, aiger_text, packed_text, FilePage};
-ghost use Rattle.page.specs.Private.Files.{file_in, file_text};
+ghost use Rattle.page.specs.Private.Files.{WritesFile, GivesFile};
+ghost use Rattle.page.specs.Private.Putting.{Puts};
 
-use aiger::Written;
-use builder::Built;
 use calls::Tally;
-use judge::Judged;
-use page_text::{graph_length, put_refusal, put_report};
+use page_text::{graph_and_trace, write_refusal, write_report};
 use simulator::Verdict;
 use text::Refusal;
 
@@ -48,14 +44,6 @@ enum InputFault {
     TooLong,
 }
 
-// What a page function answers.
-#[derive(Clone, Copy)]
-pub enum Paged {
-    // How many bytes the page has.
-    Bytes(usize),
-    Refused(Cause),
-}
-
 impl Cause {
     // The number and line in which a refusal is reported.
     pub fn refusal(self) -> Refusal
@@ -81,115 +69,94 @@ impl InputFault {
     }
 }
 
-// The page of a refusal. Like every page it is measured first, so that the buffer stays as it was where it is too
-// short.
-pub fn refused_page(out: &mut [u8], refusal: Refusal) -> Paged
+// The page that a writer puts at the front of a buffer. It is measured first, so that the buffer stays as it was where it
+// is too short.
+fn measured_page<W: Fn(&mut [u8]) -> usize>(out: &mut [u8], put: W) -> Result<usize, Cause>
+    requires { W.IsAlwaysCallable put }
+    ensures { (page : List ℕ) → Puts W.Fn put [] page → Puts W.Fn put out.old page → page_end result out.new ≡ page_of page out.old }
+{
+    if put(&mut out[..0]) > out.len() {
+        return Err(Cause::ShortBuffer);
+    }
+    Ok(put(out))
+}
+
+// The page of a refusal.
+pub fn refused_page(out: &mut [u8], refusal: Refusal) -> Result<usize, Cause>
     ensures { page_end result out.new ≡ page_of (refused_line refusal) out.old }
 {
-    let need = put_refusal(&mut out[..0], 0, refusal);
-    if need > out.len() {
-        return Paged::Refused(Cause::ShortBuffer);
-    }
-    let end = put_refusal(out, 0, refusal);
-    Paged::Bytes(end)
+    measured_page(out, |page: &mut [u8]| write_refusal(page, refusal))
 }
 
 // The page of a run with these verdict bytes.
-fn report_page(out: &mut [u8], bytes: &[u8], tally: Tally, verdict: Verdict) -> Paged
+fn report_page(out: &mut [u8], bytes: &[u8], tally: Tally, verdict: Verdict) -> Result<usize, Cause>
     ensures { page_end result out.new ≡ page_of (report bytes.now tally.cycles tally.rejected verdict) out.old }
 {
-    let need = put_report(&mut out[..0], 0, bytes, tally, verdict);
-    if need > out.len() {
-        return Paged::Refused(Cause::ShortBuffer);
-    }
-    let end = put_report(out, 0, bytes, tally, verdict);
-    Paged::Bytes(end)
+    measured_page(
+        out,
+        |page: &mut [u8]| write_report(page, bytes, tally, verdict),
+    )
 }
 
 // The page of a graph text and a trace.
-fn judged_page(out: &mut [u8], graph: &[u8], trace: &[u8]) -> Paged
+fn judged_page(out: &mut [u8], graph: &[u8], trace: &[u8]) -> Result<usize, Cause>
     requires { length trace.now ≤ 65536 }
     ensures { page_end result out.new ≡ page_of (graph_page (graph_of graph.now) (trace_page trace.now)) out.old }
 {
     let mut verdicts = [0u8; MAX_CYCLES];
-    let judged = judge::judge(graph, trace, &mut verdicts);
-    match judged {
-        Judged::Done(tally, verdict) => {
+    match judge::judge(graph, trace, &mut verdicts) {
+        Ok((tally, verdict)) => {
             let end = tally.cycles as usize;
             report_page(out, &verdicts[..end], tally, verdict)
         }
-        Judged::Refused(cause) => refused_page(out, cause.refusal()),
+        Err(cause) => refused_page(out, cause.refusal()),
     }
 }
 
 // The page of the monitor program: graph, a line `T`, trace. It prints the rejected cycles and the sum, or the
 // refusal.
-pub fn monitor_page(input: &[u8], out: &mut [u8]) -> Paged
+pub fn monitor_page(input: &[u8], out: &mut [u8]) -> Result<usize, Cause>
     ensures out_after { page_end result out.new ≡ page_of (monitor_text input.now) out.old }
     ensures fits { length (monitor_text input.now) ≤ 250991 }
     ensures paths { PathsMean }
     ensures verdict { JudgementMeans input.now }
 {
     if input.len() > MAX_INPUT {
-        let fault = InputFault::TooLong;
-        return refused_page(out, fault.refusal());
+        return refused_page(out, InputFault::TooLong.refusal());
     }
-    let end = graph_length(input);
-    let at = if end < input.len() { end + 2 } else { end };
-    judged_page(out, &input[..end], &input[at..])
+    let (graph, trace) = graph_and_trace(input);
+    judged_page(out, graph, trace)
 }
 
-// Writes the file of a netlist, packed or as text.
-fn write_file(net: &[u16], packed: bool, out: &mut [u8]) -> Written
-    ensures { write_end result out.new ≡ write_as (file_in packed net.now) net.now out.old }
-{
-    if packed {
-        packed::write(net, out)
-    } else {
-        aiger::write(net, out)
-    }
-}
-
-// The file of a netlist as a page.
-fn file_page(out: &mut [u8], net: &[u16], packed: bool) -> Paged
-    requires { is_netlist net.now ≡ true }
-    ensures { page_end result out.new ≡ page_of (file_in packed net.now) out.old }
-{
-    let written = write_file(net, packed, out);
-    match written {
-        Written::Bytes(end) => Paged::Bytes(end),
-        Written::Refused(_) => Paged::Refused(Cause::ShortBuffer),
-    }
-}
-
-// The page of a graph text: the file of its monitor's netlist, or the refusal.
-fn graph_file(input: &[u8], packed: bool, out: &mut [u8]) -> Paged
-    ensures out_after { page_end result out.new ≡ page_of (file_text packed input.now) out.old }
-    ensures fits { length (file_text packed input.now) ≤ 65536 }
+// The page of a graph text: the file of its monitor's netlist, as a writer gives it, or the refusal.
+fn graph_file<W>(input: &[u8], out: &mut [u8], write: W) -> Result<usize, Cause>
+where
+    W: Fn(&[u16], &mut [u8]) -> Result<usize, aiger::Cause>,
+    requires { W.IsAlwaysCallable write }
+    ensures { (packed : Bool) → WritesFile W.Fn write packed → GivesFile packed input.now out.old out.new result }
 {
     let mut net = [0u16; MAX_NUMBERS];
-    let built = builder::build(input, false, &mut net);
-    match built {
-        Built::Gates(_) => file_page(out, &net, packed),
-        Built::Refused(cause) => refused_page(out, cause.refusal()),
+    match builder::build(input, false, &mut net) {
+        Ok(_) => write(&net, out).or(Err(Cause::ShortBuffer)),
+        Err(cause) => refused_page(out, cause.refusal()),
     }
 }
 
 // The page of the program that prints AIGER text: its whole input is a graph text. It prints the file of the monitor's
 // netlist, or the refusal.
-pub fn aiger_page(input: &[u8], out: &mut [u8]) -> Paged
+pub fn aiger_page(input: &[u8], out: &mut [u8]) -> Result<usize, Cause>
     ensures out_after { page_end result out.new ≡ page_of (aiger_text input.now) out.old }
     ensures fits { length (aiger_text input.now) ≤ 65536 }
     ensures prints { FilePage file_of input.now (aiger_text input.now) }
 {
-    graph_file(input, false, out)
+    graph_file(input, out, aiger::write)
 }
 
 // The page of the program that prints AIGER in the binary format. A refusal is text, as in every page.
-pub fn packed_page(input: &[u8], out: &mut [u8]) -> Paged
+pub fn packed_page(input: &[u8], out: &mut [u8]) -> Result<usize, Cause>
     ensures out_after { page_end result out.new ≡ page_of (packed_text input.now) out.old }
     ensures fits { length (packed_text input.now) ≤ 65536 }
     ensures prints { FilePage packed_of input.now (packed_text input.now) }
 {
-    graph_file(input, true, out)
+    graph_file(input, out, packed::write)
 }

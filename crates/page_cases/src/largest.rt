@@ -16,10 +16,8 @@ fn cycle_byte(k: usize) -> u8 {
 
 // Fills a buffer from a place on with cycles `1`.
 fn put_cycles(out: &mut [u8], at: usize) {
-    let mut i = at;
-    while i < out.len() {
-        out[i] = cycle_byte(i - at);
-        i += 1;
+    for (k, byte) in out.iter_mut().skip(at).enumerate() {
+        *byte = cycle_byte(k);
     }
 }
 
@@ -32,21 +30,16 @@ fn line_start(before: u8, i: usize, start: usize) -> usize {
 fn last_line(s: &[u8]) -> usize {
     let mut start = 0;
     let mut before = b'\n';
-    let mut i = 0;
-    while i < s.len() {
+    for (i, &b) in s.iter().enumerate() {
         start = line_start(before, i, start);
-        before = s[i];
-        i += 1;
+        before = b;
     }
     start
 }
 
 // Writes how many bytes a page has.
 fn write_length(rt: &impl Print, n: usize) -> io::Result<()> {
-    let mut out = [0u8; 64];
-    let p = text::put_number(&mut out, 0, n);
-    let end = text::put_bytes(&mut out, p, b" bytes\n");
-    write_front(rt, &out, end)
+    print!(rt; "{n} bytes\n")
 }
 
 // Writes a part of a buffer.
@@ -72,7 +65,9 @@ fn write_end(rt: &impl Print, out: &[u8], n: usize) -> io::Result<()> {
 // Fills an input with a graph of one edge that condemns each path, `T` and cycles, and writes the end of its page.
 fn write_filled(rt: &impl Print, input: &mut [u8]) -> io::Result<()> {
     let mut out = [0u8; PAGE];
-    let at = text::put_bytes(input, 0, b"V\ta\nE\ta\ta\tt\t1\t0\nT\n");
+    let mut graph = text::Writer::new(input);
+    graph.bytes(b"V\ta\nE\ta\ta\tt\t1\t0\nT\n");
+    let at = graph.at;
     put_cycles(input, at);
     let paged = page::monitor_page(input, &mut out);
     write_end(rt, &out, page_end(paged))

@@ -7,9 +7,9 @@
 // buffer is not what it must be. Last come the cases of the largest inputs.
 #![tactic(auto)]
 
-use page::Paged;
+use page::Cause;
 use std::io;
-use text::{Line, Number};
+use text::Line;
 
 mod largest;
 
@@ -20,7 +20,7 @@ const FILL: u8 = 165;
 const ROOM: usize = 2048;
 
 // The page of the kind that a byte names.
-fn page_of(kind: u8, input: &[u8], out: &mut [u8]) -> Paged {
+fn page_of(kind: u8, input: &[u8], out: &mut [u8]) -> Result<usize, Cause> {
     if kind == b'm' {
         page::monitor_page(input, out)
     } else if kind == b'p' {
@@ -51,10 +51,10 @@ fn untouched(out: &[u8], n: usize) -> bool {
 }
 
 // Whether an answer is refusal 12, at line 0.
-fn is_short(paged: Paged) -> bool {
+fn is_short(paged: Result<usize, Cause>) -> bool {
     match paged {
-        Paged::Bytes(_) => false,
-        Paged::Refused(cause) => {
+        Ok(_) => false,
+        Err(cause) => {
             let r = cause.refusal();
             if r.number == 12 { r.line == 0 } else { false }
         }
@@ -62,15 +62,15 @@ fn is_short(paged: Paged) -> bool {
 }
 
 // How many bytes a page has; 0, which no page has, for a refusal.
-pub(crate) fn page_end(paged: Paged) -> usize {
+pub(crate) fn page_end(paged: Result<usize, Cause>) -> usize {
     match paged {
-        Paged::Bytes(end) => end,
-        Paged::Refused(_) => 0,
+        Ok(end) => end,
+        Err(_) => 0,
     }
 }
 
 // The page in the first n bytes of a buffer, or in all of it where it is shorter.
-fn page_within(kind: u8, input: &[u8], out: &mut [u8], n: usize) -> Paged {
+fn page_within(kind: u8, input: &[u8], out: &mut [u8], n: usize) -> Result<usize, Cause> {
     if n <= out.len() {
         page_of(kind, input, &mut out[0..n])
     } else {
@@ -159,7 +159,7 @@ fn write_case(rt: &impl Print, label: &[u8], input: &[u8]) -> io::Result<()> {
 
 // The case at a place: the place after it, or the same place where there is none.
 fn one_case(rt: &impl Print, input: &[u8], at: usize) -> io::Result<usize> {
-    let Number::Read(length, tab) = text::read_number(input, at) else {
+    let Some((length, tab)) = text::read_number(input, at) else {
         return Ok(at);
     };
     let Line::Ended(end) = text::line_at(input, tab) else {

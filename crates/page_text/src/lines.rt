@@ -1,88 +1,92 @@
-// The lines of a page, appended to a buffer as the writers of `text` do.
-ghost use Rattle.std.specs.Prelude.{◌<◌, ◌+◌, length};
-ghost use Rattle.text.specs.Writer.{Wrote, joined};
+// The lines of a page, appended to a writer.
+ghost use Rattle.std.specs.Prelude.{length};
+ghost use Rattle.text.specs.Writer.{Wrote, Writes, joined};
 ghost use Rattle.page_text.specs.Lines.{field, refused_line, rejected_line, verdict_field, sum_line, cycle_line, report};
 
 use calls::Tally;
 use simulator::Verdict;
-use text::Refusal;
+use text::{Refusal, Writer};
 
 // Appends a tab and a number.
-fn put_field(out: &mut [u8], at: usize, n: usize) -> usize
-    ensures { Wrote out.old out.new at result (field n) }
+fn put_field(page: &mut Writer, n: usize)
+    ensures { Writes page.old page.new (field n) }
 {
-    let p = text::put_byte(out, at, b'\t');
-    text::put_number(out, p, n)
+    page.byte(b'\t');
+    page.number(n);
 }
 
 // Appends the line of a refusal.
-pub fn put_refusal(out: &mut [u8], at: usize, refusal: Refusal) -> usize
-    ensures { Wrote out.old out.new at result (refused_line refusal) }
+pub fn put_refusal(page: &mut Writer, refusal: Refusal)
+    ensures { Writes page.old page.new (refused_line refusal) }
 {
-    let p1 = text::put_bytes(out, at, b"refused");
-    let p2 = put_field(out, p1, refusal.number as usize);
-    let p3 = put_field(out, p2, refusal.line as usize);
-    text::put_byte(out, p3, b'\n')
+    page.bytes(b"refused");
+    put_field(page, refusal.number as usize);
+    put_field(page, refusal.line as usize);
+    page.byte(b'\n');
 }
 
 // Appends the line of a rejected cycle.
-fn put_rejected(out: &mut [u8], at: usize, cycle: usize) -> usize
-    ensures { Wrote out.old out.new at result (rejected_line cycle) }
+fn put_rejected(page: &mut Writer, cycle: usize)
+    ensures { Writes page.old page.new (rejected_line cycle) }
 {
-    let p1 = text::put_byte(out, at, b'R');
-    let p2 = put_field(out, p1, cycle);
-    text::put_byte(out, p2, b'\n')
-}
-
-// Appends the line of cycle k, from 0, if it was rejected.
-fn put_cycle(out: &mut [u8], at: usize, bytes: &[u8], k: usize) -> usize
-    requires { k < length bytes.now }
-    ensures { Wrote out.old out.new at result (cycle_line bytes.now k) }
-{
-    if bytes[k] == 1 {
-        put_rejected(out, at, k + 1)
-    } else {
-        at
-    }
+    page.byte(b'R');
+    put_field(page, cycle);
+    page.byte(b'\n');
 }
 
 // Appends the lines of all rejected cycles.
-fn put_cycles(out: &mut [u8], at: usize, bytes: &[u8]) -> usize
-    ensures { Wrote out.old out.new at result (joined (cycle_line bytes.now) (length bytes.now)) }
+fn put_cycles(page: &mut Writer, bytes: &[u8])
+    ensures { Writes page.old page.new (joined (cycle_line bytes.now) (length bytes.now)) }
 {
-    let mut p = at;
-    let mut k = 0;
-    while k < bytes.len() {
-        p = put_cycle(out, p, bytes, k);
-        k += 1;
+    for (k, &b) in bytes.iter().enumerate() {
+        if b == 1 {
+            put_rejected(page, k + 1);
+        }
     }
-    p
 }
 
 // Appends the verdict, which ends the last line.
-fn put_verdict(out: &mut [u8], at: usize, verdict: Verdict) -> usize
-    ensures { Wrote out.old out.new at result (verdict_field verdict) }
+fn put_verdict(page: &mut Writer, verdict: Verdict)
+    ensures { Writes page.old page.new (verdict_field verdict) }
 {
     match verdict {
-        Verdict::Accepted => text::put_bytes(out, at, b"\taccepted\n"),
-        Verdict::Rejected => text::put_bytes(out, at, b"\trejected\n"),
+        Verdict::Accepted => page.bytes(b"\taccepted\n"),
+        Verdict::Rejected => page.bytes(b"\trejected\n"),
     }
 }
 
 // Appends the last line.
-fn put_sum(out: &mut [u8], at: usize, tally: Tally, verdict: Verdict) -> usize
-    ensures { Wrote out.old out.new at result (sum_line tally.cycles tally.rejected verdict) }
+fn put_sum(page: &mut Writer, tally: Tally, verdict: Verdict)
+    ensures { Writes page.old page.new (sum_line tally.cycles tally.rejected verdict) }
 {
-    let p1 = text::put_bytes(out, at, b"sum");
-    let p2 = put_field(out, p1, tally.cycles as usize);
-    let p3 = put_field(out, p2, tally.rejected as usize);
-    put_verdict(out, p3, verdict)
+    page.bytes(b"sum");
+    put_field(page, tally.cycles as usize);
+    put_field(page, tally.rejected as usize);
+    put_verdict(page, verdict);
 }
 
 // Appends the page of a run with these verdict bytes.
-pub fn put_report(out: &mut [u8], at: usize, bytes: &[u8], tally: Tally, verdict: Verdict) -> usize
-    ensures { Wrote out.old out.new at result (report bytes.now tally.cycles tally.rejected verdict) }
+pub fn put_report(page: &mut Writer, bytes: &[u8], tally: Tally, verdict: Verdict)
+    ensures { Writes page.old page.new (report bytes.now tally.cycles tally.rejected verdict) }
 {
-    let p = put_cycles(out, at, bytes);
-    put_sum(out, p, tally, verdict)
+    put_cycles(page, bytes);
+    put_sum(page, tally, verdict);
+}
+
+// Fills a buffer from its front with the line of a refusal: its length.
+pub fn write_refusal(out: &mut [u8], refusal: Refusal) -> usize
+    ensures { Wrote out.old out.new 0 result (refused_line refusal) }
+{
+    let mut page = Writer::new(out);
+    put_refusal(&mut page, refusal);
+    page.at
+}
+
+// Fills a buffer from its front with the page of a run with these verdict bytes: its length.
+pub fn write_report(out: &mut [u8], bytes: &[u8], tally: Tally, verdict: Verdict) -> usize
+    ensures { Wrote out.old out.new 0 result (report bytes.now tally.cycles tally.rejected verdict) }
+{
+    let mut page = Writer::new(out);
+    put_report(&mut page, bytes, tally, verdict);
+    page.at
 }

@@ -1,6 +1,6 @@
 // The parts of the monitor program's input.
 ghost use Rattle.std.specs.Prelude.{◌≡◌, ◌+◌, ◌≤◌, length, take, drop};
-ghost use Rattle.page_text.specs.Parts.{graph_length};
+ghost use Rattle.page_text.specs.Parts.{graph_length, graph_part, trace_part};
 ghost use Rattle.page_text.specs.Claims.{Parts};
 
 // How many bytes stand before the first line `T`, or all where there is none.
@@ -10,18 +10,22 @@ pub fn graph_length(input: &[u8]) -> usize
     ensures within { result ≤ length input.now }
 {
     let mut starts = true;
-    let mut i = 0;
-    while i < input.len() {
-        let b = input[i];
-        if starts {
-            if b == b'T' {
-                if text::byte_at(input, i + 1) == b'\n' {
-                    return i;
-                }
-            }
+    for (i, &b) in input.iter().enumerate() {
+        if starts && b == b'T' && text::byte_at(input, i + 1) == b'\n' {
+            return i;
         }
         starts = b == b'\n';
-        i += 1;
     }
-    i
+    input.len()
+}
+
+// The two parts of the input: what stands before the first line `T`, and what stands after it.
+pub fn graph_and_trace(input: &[u8]) -> (&[u8], &[u8])
+    ensures graph { result.0.now ≡ graph_part input.now }
+    ensures trace { result.1.now ≡ trace_part input.now }
+    ensures within { length result.1.now ≤ length input.now }
+{
+    let end = graph_length(input);
+    let at = if end < input.len() { end + 2 } else { end };
+    (&input[..end], &input[at..])
 }

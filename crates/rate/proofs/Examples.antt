@@ -1,18 +1,19 @@
 -- Rates of tallies, worked with the numbers written out. Assumes nothing.
+use Rattle.std.specs.Prelude.{Result, Ok, Err}
+use Rattle.rate.specs.declared.Rate.{Rate}
+use Rattle.rate.specs.declared.Cause.{Cause}
 use Prim.Native.Nat.{ℕ}
 use mathlib.Core.Path.{◌≡◌, refl}
 use Rattle.rate.specs.declared.Cause.TheVariants.{NoRate}
-use Rattle.rate.specs.declared.Rated.{Rated}
-use Rattle.rate.specs.declared.Rated.TheVariants.{PerMillion, Refused}
 use Rattle.rate.specs.Rates.{refusal_of, has_no_rate, per_million, rate_of}
 
 -- cycles, rejected
-abbrev rate : ℕ → ℕ → Rated
+abbrev rate : ℕ → ℕ → Result Rate Cause
 rate c r = rate_of (record { cycles = c; rejected = r; checked = 0 })
 
 -- whole part, remainder
-abbrev parts : ℕ → ℕ → Rated
-parts w m = PerMillion (record { whole = w; remainder = m })
+abbrev parts : ℕ → ℕ → Result Rate Cause
+parts w m = Ok (record { whole = w; remainder = m })
 
 rated :
     (rate 1 0 ≡ parts 0 0)
@@ -32,9 +33,9 @@ unfolding rate_of has_no_rate per_million
 rated = (refl, refl, refl, refl, refl, refl, refl, refl, refl, refl, refl, refl, refl)
 
 refused :
-    (rate 0 0 ≡ Refused NoRate)
-    × (rate 0 1 ≡ Refused NoRate)
-    × (rate 5 6 ≡ Refused NoRate)
+    (rate 0 0 ≡ Err NoRate)
+    × (rate 0 1 ≡ Err NoRate)
+    × (rate 5 6 ≡ Err NoRate)
 unfolding rate_of has_no_rate
 refused = (refl, refl, refl)
 

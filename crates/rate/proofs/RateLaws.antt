@@ -1,4 +1,7 @@
 -- Which tallies have a rate, and that whole part and remainder are those of a division. Assumes nothing.
+use Rattle.std.specs.Prelude.{Result, Ok, Err}
+use Rattle.rate.specs.declared.Rate.{Rate}
+use Rattle.rate.specs.declared.Cause.{Cause}
 use mathlib.Core.Path.{◌≡◌, refl, sym, ◌∙◌}
 use mathlib.Core.Bool.{or-true}
 use mathlib.Core.Logic.{⊎_elim}
@@ -9,21 +12,19 @@ use lib.Dec.{eqb}
 use borrow.Author.Tests.{eq-eqb, ne_eqb, lt-ltb, le-ltb}
 use Rattle.calls.specs.declared.tally.Tally.{Tally}
 use Rattle.rate.specs.declared.Cause.TheVariants.{NoRate}
-use Rattle.rate.specs.declared.Rated.{Rated}
-use Rattle.rate.specs.declared.Rated.TheVariants.{PerMillion, Refused}
 use Rattle.rate.specs.Rates.{has_no_rate, per_million, rate_of}
 use Rattle.rate.specs.Claims.{Division, Divides}
 
 -- ---- which tallies are refused
-pub refused_none : (t : Tally) → t.cycles ≡ 0 → rate_of t ≡ Refused NoRate
+pub refused_none : (t : Tally) → t.cycles ≡ 0 → rate_of t ≡ Err NoRate
 unfolding rate_of has_no_rate
 refused_none t e = rw (eq-eqb t.cycles 0 e)
 
-pub refused-above : (t : Tally) → t.cycles < t.rejected → rate_of t ≡ Refused NoRate
+pub refused-above : (t : Tally) → t.cycles < t.rejected → rate_of t ≡ Err NoRate
 unfolding rate_of has_no_rate
 refused-above t l = rw (lt-ltb t.cycles t.rejected l, or-true (eqb t.cycles 0))
 
-pub rated : (t : Tally) → 0 < t.cycles → t.rejected ≤ t.cycles → rate_of t ≡ PerMillion (per_million t)
+pub rated : (t : Tally) → 0 < t.cycles → t.rejected ≤ t.cycles → rate_of t ≡ Ok (per_million t)
 unfolding rate_of has_no_rate
 rated t some within = rw (ne_eqb t.cycles 0 (λ e. omega arith), le-ltb t.cycles t.rejected within)
 
@@ -41,7 +42,7 @@ division t some within =
     }
 
 -- what is claimed of an answer that is what the definition gives
-pub divides : (t : Tally) (answer : Rated) → answer ≡ rate_of t → Divides t answer
+pub divides : (t : Tally) (answer : Result Rate Cause) → answer ≡ rate_of t → Divides t answer
 divides t answer e =
     record {
       refused = ⊎_elim (λ none. e ∙ refused_none t none) (λ above. e ∙ refused-above t above);

@@ -1,10 +1,9 @@
 -- What the contract of per_million claims of its answer, without a quotient. Assumes nothing.
-use Rattle.std.specs.Prelude.{◌≡◌, ◌⊎◌, ℕ, ◌+◌, ◌*◌, ◌<◌, ◌≤◌}
+use Rattle.std.specs.Prelude.{Result, Ok, Err, ◌≡◌, ◌⊎◌, ℕ, ◌+◌, ◌*◌, ◌<◌, ◌≤◌}
+use Rattle.rate.specs.declared.Cause.{Cause}
 use Rattle.calls.specs.declared.tally.Tally.{Tally}
 use Rattle.rate.specs.declared.Cause.TheVariants.{NoRate}
 use Rattle.rate.specs.declared.Rate.{Rate}
-use Rattle.rate.specs.declared.Rated.{Rated}
-use Rattle.rate.specs.declared.Rated.TheVariants.{PerMillion, Refused}
 
 -- whole and remainder are whole part and remainder of rejected × 1,000,000 ÷ cycles
 pub record Division (cycles rejected whole remainder : ℕ) : Type 0 where
@@ -14,12 +13,12 @@ pub record Division (cycles rejected whole remainder : ℕ) : Type 0 where
   pub most : whole ≤ 1000000
 
 -- the rate that is answered of a tally
-pub record RateOfTally (t : Tally) (answer : Rated) : Type 0 where
+pub record RateOfTally (t : Tally) (answer : Result Rate Cause) : Type 0 where
   pub rate : Rate
-  pub answered : answer ≡ PerMillion rate
+  pub answered : answer ≡ Ok rate
   pub division : Division t.cycles t.rejected rate.whole rate.remainder
 
 -- a tally with no cycle, or more rejected than cycles, is refused; of every other the rate is answered
-pub record Divides (t : Tally) (answer : Rated) : Type 0 where
-  pub refused : (t.cycles ≡ 0) ⊎ (t.cycles < t.rejected) → answer ≡ Refused NoRate
+pub record Divides (t : Tally) (answer : Result Rate Cause) : Type 0 where
+  pub refused : (t.cycles ≡ 0) ⊎ (t.cycles < t.rejected) → answer ≡ Err NoRate
   pub rated : 0 < t.cycles → t.rejected ≤ t.cycles → RateOfTally t answer

@@ -24,12 +24,6 @@ pub struct Rate {
     pub remainder: u32,
 }
 
-#[derive(Clone, Copy)]
-pub enum Rated {
-    PerMillion(Rate),
-    Refused(Cause),
-}
-
 impl Cause {
     // The number and line in which a refusal is reported.
     pub fn refusal(self) -> Refusal
@@ -45,19 +39,19 @@ impl Cause {
 }
 
 // Rejections in a million cycles. The product is below 2^52.
-pub fn per_million(tally: Tally) -> Rated
+pub fn per_million(tally: Tally) -> Result<Rate, Cause>
     ensures value { result ≡ rate_of tally }
     ensures divides { Divides tally result }
 {
     if tally.cycles == 0 {
-        return Rated::Refused(Cause::NoRate);
+        return Err(Cause::NoRate);
     }
     if tally.rejected > tally.cycles {
-        return Rated::Refused(Cause::NoRate);
+        return Err(Cause::NoRate);
     }
     let cycles = tally.cycles as u64;
     let product = tally.rejected as u64 * MILLION;
     let whole = (product / cycles) as u32;
     let remainder = (product % cycles) as u32;
-    Rated::PerMillion(Rate { whole, remainder })
+    Ok(Rate { whole, remainder })
 }

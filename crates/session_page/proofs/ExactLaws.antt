@@ -1,5 +1,6 @@
 -- The clause `lays` leaves nothing open: whatever answer and buffer it holds of are those that the definition gives.
 -- Assumes nothing.
+use Rattle.std.specs.Prelude.{Result, Ok}
 use mathlib.Core.Path.{◌≡◌, refl, ap, subst, ◌∙◌}
 use mathlib.Core.Bool.{Bool, true, false, ◌&&◌}
 use mathlib.Core.List.{List}
@@ -14,8 +15,7 @@ use Rattle.session_text.specs.Claims.{Printable, InColumns}
 use Rattle.session_text.proofs.RejectedLaws.{rejected-are}
 use Rattle.session_text.proofs.PageLaws.{page-length, in_columns}
 use Rattle.session_text.proofs.ExactLaws.{one_list, one-page}
-use Rattle.session_page.specs.declared.Laid.{Laid}
-use Rattle.session_page.specs.declared.Laid.TheVariants.{Bytes}
+use Rattle.session_page.specs.declared.Cause.{Cause}
 use Rattle.session_page.specs.LayOut.{is_graph_name, is_printable, laid_end, lay_out_of}
 use Rattle.session_page.specs.Claims.{LaysOut, RefusedFor}
 use Rattle.session_page.specs.Claims.LaysOut.{too_many, not_printable, short, laid_out}
@@ -34,7 +34,7 @@ module _ (name v : List ℕ) where
       go true e = let w = and_both (is_graph_name name) (all_bits v) e in absurd (d (printable name v w.0 w.1))
       go false e = refl
 
-  pub lays_exact : (before after : List ℕ) (answer : Laid) → LaysOut name v before after (RefusedFor answer) (λ n. answer ≡ Bytes n)
+  pub lays_exact : (before after : List ℕ) (answer : Result ℕ Cause) → LaysOut name v before after (RefusedFor answer) (λ n. answer ≡ Ok n)
       → laid_end answer after ≡ lay_out_of name v before
   unfolding lay_out_of
   lays_exact before after answer (too_many r same many) = rw (r.0, same, lt-ltb 524288 (length v) many)

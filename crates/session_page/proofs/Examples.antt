@@ -1,19 +1,18 @@
 -- The refusals of the request's page, and their neighbours, by the definitions. Assumes nothing.
+use Rattle.std.specs.Prelude.{Result, Ok, Err}
 use mathlib.Core.Path.{◌≡◌, refl}
 use mathlib.Core.List.{List, [], ◌∷◌, ◌++◌, map}
 use Prim.Native.Nat.{ℕ}
 use lib.ListN.{replicate}
 use Rattle.text.specs.Quoted.{bytes}
 use Rattle.text.specs.Numbers.{digits_of, digits}
-use Rattle.text.specs.declared.Refusal.{Refusal}
 use Rattle.formula.specs.Classes.{class_of, is_word_class, name_bytes}
 use Rattle.trace.specs.Verdicts.{all_bits}
 use Rattle.rate.specs.Rates.{has_no_rate, per_million, rate_of}
 use Rattle.session_text.specs.Fields.{left, right, row}
 use Rattle.session_text.specs.Pages.{rejected_from, title, cell, cell_line, cell_lines, rate_fields, last_line, session_page}
-use Rattle.session_page.specs.declared.Laid.{Laid}
-use Rattle.session_page.specs.declared.Laid.TheVariants.{Bytes, Refused}
-use Rattle.session_page.specs.LayOut.{refusal_of, is_graph_name, is_printable, LaidEnd, lay_out_of}
+use Rattle.session_page.specs.declared.Cause.{Cause}
+use Rattle.session_page.specs.LayOut.{refusal_of, is_graph_name, is_printable, lay_out_of}
 
 -- what is lent: name, verdict bytes, and how many bytes for the page
 record Case : Type 0 where
@@ -25,9 +24,9 @@ abbrev lend : List ℕ → List ℕ → ℕ → Case
 lend n v r = record { name = n; verdicts = v; room = r }
 
 -- the number of a refusal, or 0 and how many bytes the page has
-abbrev told : Laid → List ℕ
-told (Bytes n) = 0 ∷ n ∷ []
-told (Refused cause) = (refusal_of cause).number ∷ (refusal_of cause).line ∷ []
+abbrev told : Result ℕ Cause → List ℕ
+told (Ok n) = 0 ∷ n ∷ []
+told (Err cause) = (refusal_of cause).number ∷ (refusal_of cause).line ∷ []
 
 abbrev answers : List Case → List (List ℕ)
 answers = map (λ c. told (lay_out_of c.name c.verdicts (replicate c.room 7)).answer)

@@ -1,4 +1,5 @@
 -- Which names and verdict bytes can be laid out, as the code tests them and as the claims say it. Assumes nothing.
+use Rattle.std.specs.Prelude.{Some, None}
 use mathlib.Core.Path.{◌≡◌, refl, sym, ap, ◌∙◌}
 use mathlib.Core.Bool.{Bool, true, false, ◌&&◌, and-false, true≢false}
 use mathlib.Core.List.{List, [], ◌∷◌, ◌++◌}
@@ -21,7 +22,6 @@ use Rattle.session_text.specs.Pages.{rejected_from, rejected_of}
 use Rattle.session_text.specs.Claims.{WordByte, GraphName, Printable}
 use Rattle.session_text.specs.Claims.WordByte.{capital, small, digit, underscore}
 use Rattle.session_text.proofs.RejectedLaws.{rejected_yes, rejected_no, rejected-none, rejected_snoc}
-use Rattle.session_page.specs.declared.printable.Count.TheVariants.{Rejected, NotBits}
 use Rattle.session_page.specs.LayOut.{is_graph_name}
 use Rattle.session_page.specs.Claims.{NameMeans}
 use Rattle.session_page.specs.Private.Writers.{count_of}
@@ -164,11 +164,11 @@ not-bits name verdicts e p = true≢false (sym (bits_are name verdicts p) ∙ e)
 
 -- ---- the count, where k bytes have been counted
 module _ (v : List ℕ) where
-  pub count_none : all_bits v ≡ false → NotBits ≡ count_of v
+  pub count_none : all_bits v ≡ false → None ≡ count_of v
   unfolding count_of
   count_none e = rw e
 
-  pub count-all : {k rejected : ℕ} → length v ≤ k → rejected ≡ length (rejected_of (take k v)) → all_bits (drop k v) ≡ all_bits v → Rejected rejected ≡ count_of v
+  pub count-all : {k rejected : ℕ} → length v ≤ k → rejected ≡ length (rejected_of (take k v)) → all_bits (drop k v) ≡ all_bits v → Some rejected ≡ count_of v
   unfolding count_of
   count-all {k} {rejected} l e b = rw (sym b ∙ bits_end v k l, e, take_all k v l)
 

@@ -1,11 +1,9 @@
 -- What the contract of lay_out claims of its answer and of the lent buffer, without the tests of the definition. Assumes
 -- nothing.
-use Rattle.std.specs.Prelude.{◌≡◌, Bool, true, false, List, ◌++◌, ℕ, ◌+◌, ◌*◌, ◌/◌, ◌<◌, ◌≤◌, length, take, drop}
+use Rattle.std.specs.Prelude.{Result, Err, ◌≡◌, Bool, true, false, List, ◌++◌, ℕ, ◌+◌, ◌*◌, ◌/◌, ◌<◌, ◌≤◌, length, take, drop}
 use Rattle.session_text.specs.Claims.{GraphName, Printable, Rejected, InColumns, Tells}
 use Rattle.session_page.specs.declared.Cause.{Cause}
 use Rattle.session_page.specs.declared.Cause.TheVariants.{TooManyCycles, ShortBuffer, NotPrintable}
-use Rattle.session_page.specs.declared.Laid.{Laid}
-use Rattle.session_page.specs.declared.Laid.TheVariants as laid
 use Rattle.session_page.specs.LayOut.{refusal_of}
 
 -- an answer tells whether bytes are a graph name
@@ -29,8 +27,8 @@ pub data LaysOut (name verdicts before after : List ℕ) (Refuses : Cause → �
       → LaysOut name verdicts before after Refuses Gives
 
 -- what an answer of lay_out says of a cause, and the number and line in which that is reported
-abbrev pub RefusedFor : Laid → Cause → ℕ → ℕ → Type 0
-RefusedFor answer cause number line = (answer ≡ laid.Refused cause) × (refusal_of cause ≡ record { number = number; line = line })
+abbrev pub RefusedFor : Result ℕ Cause → Cause → ℕ → ℕ → Type 0
+RefusedFor answer cause number line = (answer ≡ Err cause) × (refusal_of cause ≡ record { number = number; line = line })
 
 -- a page that was given tells graph name and verdict bytes
 abbrev pub GivenTells : List ℕ → List ℕ → List ℕ → (ℕ → Type 0) → Type 0

@@ -1,14 +1,12 @@
 -- What lay_out answers and leaves in the lent buffer (document 02, No. 9). The first test that fails decides. Assumes
 -- nothing.
-use Rattle.std.specs.Prelude.{Bool, cond, not, ◌&&◌, List, ◌++◌, ℕ, leb, ltb, length, drop}
+use Rattle.std.specs.Prelude.{Result, Ok, Err, Bool, cond, not, ◌&&◌, List, ◌++◌, ℕ, leb, ltb, length, drop}
 use Rattle.text.specs.declared.Refusal.{Refusal}
 use Rattle.formula.specs.Classes.{name_bytes}
 use Rattle.trace.specs.Verdicts.{all_bits}
 use Rattle.session_text.specs.Pages.{session_page}
 use Rattle.session_page.specs.declared.Cause.{Cause}
 use Rattle.session_page.specs.declared.Cause.TheVariants.{TooManyCycles, ShortBuffer, NotPrintable}
-use Rattle.session_page.specs.declared.Laid.{Laid}
-use Rattle.session_page.specs.declared.Laid.TheVariants as laid
 
 -- the number and line of each cause: "1, first", "22, line 0, before 12"
 unfoldable pub refusal_of : Cause → Refusal
@@ -26,16 +24,16 @@ is_printable name verdicts = is_graph_name name && all_bits verdicts
 
 -- the answer, and the buffer, which keeps its surplus and a refusal leaves as it was
 pub record LaidEnd : Type 0 where
-  pub answer : Laid
+  pub answer : Result ℕ Cause
   pub page : List ℕ
 
-abbrev pub laid_end : Laid → List ℕ → LaidEnd
+abbrev pub laid_end : Result ℕ Cause → List ℕ → LaidEnd
 laid_end r p = record { answer = r; page = p }
 
 unfoldable pub lay_out_of : List ℕ → List ℕ → List ℕ → LaidEnd
 lay_out_of name verdicts page =
     let text = session_page name verdicts in
-    cond (ltb 524288 (length verdicts)) (laid_end (laid.Refused TooManyCycles) page)
-    (cond (not (is_printable name verdicts)) (laid_end (laid.Refused NotPrintable) page)
-    (cond (ltb (length page) (length text)) (laid_end (laid.Refused ShortBuffer) page)
-    (laid_end (laid.Bytes (length text)) (text ++ drop (length text) page))))
+    cond (ltb 524288 (length verdicts)) (laid_end (Err TooManyCycles) page)
+    (cond (not (is_printable name verdicts)) (laid_end (Err NotPrintable) page)
+    (cond (ltb (length page) (length text)) (laid_end (Err ShortBuffer) page)
+    (laid_end (Ok (length text)) (text ++ drop (length text) page))))

@@ -8,17 +8,16 @@ mod fields;
 mod lines;
 mod printable;
 
-ghost use Rattle.std.specs.Prelude.{◌≡◌, ◌≤◌, length};
-ghost use Rattle.text.specs.Writer.{Wrote};
+ghost use Rattle.std.specs.Prelude.{◌≡◌, ◌≤◌, length, Ok};
+ghost use Rattle.text.specs.Writer.{Wrote, Writes};
 ghost use Rattle.session_text.specs.Pages.{rejected_of, session_page};
 ghost use Rattle.session_text.specs.Claims.{Printable, Widths};
 ghost use Rattle.session_page.specs.LayOut.{refusal_of, laid_end, lay_out_of};
 ghost use Rattle.session_page.specs.Claims.{LaysOut, RefusedFor, GivenTells};
 
 use calls::Tally;
-use printable::Count;
 pub use printable::is_graph_name;
-use text::Refusal;
+use text::{Refusal, Writer};
 
 // A run on a page has at most so many cycles.
 const MAX_CYCLES: usize = 524288;
@@ -35,13 +34,6 @@ pub enum Cause {
     ShortBuffer,
     // No graph name, or a verdict byte above 1.
     NotPrintable,
-}
-
-#[derive(Clone, Copy)]
-pub enum Laid {
-    // How many bytes the page has.
-    Bytes(usize),
-    Refused(Cause),
 }
 
 impl Cause {
@@ -63,42 +55,51 @@ impl Cause {
     }
 }
 
-// Writes the page of a run with so many rejected cycles.
-fn put_page(page: &mut [u8], name: &[u8], verdicts: &[u8], rejected: usize) -> usize
+// Appends the page of a run with so many rejected cycles.
+fn put_page(page: &mut Writer, name: &[u8], verdicts: &[u8], rejected: usize)
     requires { Printable name.now verdicts.now × (length verdicts.now ≤ 524288) × (rejected ≡ length (rejected_of verdicts.now)) }
-    ensures { Wrote page.old page.new 0 result (session_page name.now verdicts.now) }
+    ensures { Writes page.old page.new (session_page name.now verdicts.now) }
 {
-    let p1 = lines::put_title(page, 0, name, verdicts.len());
-    let p2 = lines::put_cells(page, p1, verdicts);
+    lines::put_title(page, name, verdicts.len());
+    lines::put_cells(page, verdicts);
     let tally = Tally {
         cycles: verdicts.len() as u32,
         rejected: rejected as u32,
         checked: 0,
     };
-    lines::put_last(page, p2, tally)
+    lines::put_last(page, tally);
 }
 
-// Lays out the verdict bytes of a run. Counts the rejected cycles first: that gives the page's length.
-pub fn lay_out(name: &[u8], verdicts: &[u8], page: &mut [u8]) -> Laid
+// Fills a buffer from its front with that page: its length.
+fn fill(page: &mut [u8], name: &[u8], verdicts: &[u8], rejected: usize) -> usize
+    requires { Printable name.now verdicts.now × (length verdicts.now ≤ 524288) × (rejected ≡ length (rejected_of verdicts.now)) }
+    ensures { Wrote page.old page.new 0 result (session_page name.now verdicts.now) }
+{
+    let mut writer = Writer::new(page);
+    put_page(&mut writer, name, verdicts, rejected);
+    writer.at
+}
+
+// Lays out the verdict bytes of a run, and returns how many bytes the page has. Counts the rejected cycles first: that
+// gives the page's length.
+pub fn lay_out(name: &[u8], verdicts: &[u8], page: &mut [u8]) -> Result<usize, Cause>
     ensures page_after { laid_end result page.new ≡ lay_out_of name.now verdicts.now page.old }
     ensures lays { LaysOut name.now verdicts.now page.old page.new
-        (RefusedFor result) (λ n. result ≡ Laid.Bytes n) }
-    ensures tells { GivenTells name.now verdicts.now page.new (λ n. result ≡ Laid.Bytes n) }
+        (RefusedFor result) (λ n. result ≡ Ok n) }
+    ensures tells { GivenTells name.now verdicts.now page.new (λ n. result ≡ Ok n) }
     ensures widths { Widths }
 {
     if verdicts.len() > MAX_CYCLES {
-        return Laid::Refused(Cause::TooManyCycles);
+        return Err(Cause::TooManyCycles);
     }
     if !is_graph_name(name) {
-        return Laid::Refused(Cause::NotPrintable);
+        return Err(Cause::NotPrintable);
     }
-    let count = printable::count_rejected(verdicts);
-    let Count::Rejected(rejected) = count else {
-        return Laid::Refused(Cause::NotPrintable);
+    let Some(rejected) = printable::count_rejected(verdicts) else {
+        return Err(Cause::NotPrintable);
     };
     if LINE * (2 + (rejected + 9) / 10) > page.len() {
-        return Laid::Refused(Cause::ShortBuffer);
+        return Err(Cause::ShortBuffer);
     }
-    let end = put_page(page, name, verdicts, rejected);
-    Laid::Bytes(end)
+    Ok(fill(page, name, verdicts, rejected))
 }

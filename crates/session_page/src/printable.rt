@@ -21,28 +21,16 @@ pub fn is_graph_name(name: &[u8]) -> bool
     formula::name_end(name, 0) == name.len()
 }
 
-// What counting finds.
-#[derive(Clone, Copy)]
-pub(crate) enum Count {
-    // How many cycles are rejected.
-    Rejected(usize),
-    // A byte is above 1.
-    NotBits,
-}
-
-// Counts the rejected cycles.
-pub(crate) fn count_rejected(verdicts: &[u8]) -> Count
+// Counts the rejected cycles, where no byte is above 1.
+pub(crate) fn count_rejected(verdicts: &[u8]) -> Option<usize>
     ensures { result ≡ count_of verdicts.now }
 {
     let mut rejected: usize = 0;
-    let mut k = 0;
-    while k < verdicts.len() {
-        let b = verdicts[k];
+    for &b in verdicts {
         if b > 1 {
-            return Count::NotBits;
+            return None;
         }
         rejected += b as usize;
-        k += 1;
     }
-    Count::Rejected(rejected)
+    Some(rejected)
 }

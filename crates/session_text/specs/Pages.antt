@@ -1,9 +1,9 @@
 -- The session page of a graph name and the verdict bytes of one run (document 02, No. 9). Assumes nothing.
-use Rattle.std.specs.Prelude.{cond, List, [], ◌∷◌, ◌++◌, ℕ, suc, ◌+◌, ◌*◌, ◌/◌, eqb, ltb, length, get_or}
+use Rattle.std.specs.Prelude.{Result, Ok, Err, cond, List, [], ◌∷◌, ◌++◌, ℕ, suc, ◌+◌, ◌*◌, ◌/◌, eqb, ltb, length, get_or}
+use Rattle.rate.specs.declared.Rate.{Rate}
+use Rattle.rate.specs.declared.Cause.{Cause}
 use Rattle.text.specs.Quoted.{bytes}
 use Rattle.text.specs.Writer.{joined}
-use Rattle.rate.specs.declared.Rated.{Rated}
-use Rattle.rate.specs.declared.Rated.TheVariants.{PerMillion, Refused}
 use Rattle.rate.specs.Rates.{rate_of}
 use Rattle.session_text.specs.Fields.{blanks, left, right, row}
 
@@ -33,9 +33,9 @@ unfoldable pub cell_lines : ℕ → ℕ
 cell_lines rejected = (rejected + 9) / 10
 
 -- "whole part (7) and remainder (10), right", as No. 8 has them; "with no cycle", which has no rate, they "are blank"
-unfoldable pub rate_fields : Rated → List ℕ
-rate_fields (PerMillion rate) = right 7 rate.whole ++ right 10 rate.remainder
-rate_fields (Refused cause) = blanks 17
+unfoldable pub rate_fields : Result Rate Cause → List ℕ
+rate_fields (Ok rate) = right 7 rate.whole ++ right 10 rate.remainder
+rate_fields (Err cause) = blanks 17
 
 -- "a last line with rejected (10)", and these; a rate does not look at the third number
 unfoldable pub last_line : ℕ → ℕ → List ℕ

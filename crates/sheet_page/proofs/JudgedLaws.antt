@@ -1,4 +1,5 @@
 -- The verdict bytes that a judgement leaves of its cycles can be printed. Assumes nothing.
+use Rattle.std.specs.Prelude.{Result, Ok, Err}
 use mathlib.Core.Path.{◌≡◌, refl, ap, ◌∙◌}
 use mathlib.Core.Bool.{Bool, true, false, cond}
 use mathlib.Core.List.{List, [], ◌∷◌, ◌++◌}
@@ -17,9 +18,8 @@ use Rattle.calls.specs.declared.tally.Tally.{Tally}
 use Rattle.simulator.specs.declared.outcome.Verdict.{Verdict}
 use Rattle.simulator.specs.Run.{verdict_of}
 use Rattle.demand.proofs.Held.{verdicts-length}
+use Rattle.judge.specs.declared.Cause.{Cause}
 use Rattle.judge.specs.declared.Cause.TheVariants.{Trace}
-use Rattle.judge.specs.declared.Judged.{Judged}
-use Rattle.judge.specs.declared.Judged.TheVariants.{Done, Refused}
 use Rattle.judge.specs.Judge.{inputs_of, JudgeEnd, judge_end, trace_judged, judge_of}
 use Rattle.judge.proofs.BuildLaws.{graph_end}
 use Rattle.judge.proofs.EndLaws.{room-judged, judge_end_lem}
@@ -37,9 +37,9 @@ verdict-bits g seen (c ∷ cs) = go (is_rejected g (seen ++ (c ∷ []))) (verdic
     go false h = h
 
 -- the bytes of the cycles are bits, in an answer with the buffer that it left
-unfoldable bits_in : Judged → List ℕ → Bool
-bits_in (Done t v) bytes = all_bits (take t.cycles bytes)
-bits_in (Refused c) bytes = true
+unfoldable bits_in : Result (Tally × Verdict) Cause → List ℕ → Bool
+bits_in (Ok (t, v)) bytes = all_bits (take t.cycles bytes)
+bits_in (Err c) bytes = true
 
 module _ (text trace : Bytes) (buffer : List ℕ) (short : length trace ≤ 1048576) (room : length trace ≤ length buffer * 2) where
   abbrev bits : JudgeEnd → Bool
@@ -59,9 +59,9 @@ module _ (text trace : Bytes) (buffer : List ℕ) (short : length trace ≤ 1048
       t = record { cycles = length cycles; rejected = count_rejected g cycles; checked = 0 }
 
       wrong : JudgeEnd
-      wrong = judge_end (Refused (Trace (WrongLine (fault_of (inputs_of g) trace)))) buffer
+      wrong = judge_end (Err (Trace (WrongLine (fault_of (inputs_of g) trace)))) buffer
 
-      go : (b : Bool) → bits (cond b (judge_end (Done t (verdict_of judged)) (judged ++ drop (length judged) buffer)) wrong) ≡ true
+      go : (b : Bool) → bits (cond b (judge_end (Ok (t, verdict_of judged)) (judged ++ drop (length judged) buffer)) wrong) ≡ true
       go true = ap all_bits (take_at judged (drop (length judged) buffer) (length cycles) (verdicts-length g [] cycles)) ∙ verdict-bits g [] cycles
       go false = refl
 
@@ -78,7 +78,7 @@ module _ (text trace : Bytes) (buffer : List ℕ) (short : length trace ≤ 1048
   unfolding bits_in
   judged-bits = judge_end_lem text trace buffer bits (λ g. true) (λ c. true) trace-bits (λ c. refl) ∙ same_end (graph_of text)
 
-  pub done_printable : (name : List ℕ) {r : Judged} {left : List ℕ} → judge_end r left ≡ judge_of text trace buffer → {t : Tally} {v : Verdict} → r ≡ Done t v
+  pub done_printable : (name : List ℕ) {r : Result (Tally × Verdict) Cause} {left : List ℕ} → judge_end r left ≡ judge_of text trace buffer → {t : Tally} {v : Verdict} → r ≡ Ok (t, v)
       → is_graph_name name ≡ true → Printable name (take t.cycles left)
   unfolding bits_in
   done_printable name {r} {left} e h named =

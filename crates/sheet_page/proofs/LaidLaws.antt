@@ -1,4 +1,6 @@
 -- A session page as a page: a run that is printable is laid out, or the buffer is too short for it. Assumes nothing.
+use Rattle.std.specs.Prelude.{Result, Err}
+use Rattle.std.specs.Result.{result_or}
 use mathlib.Core.Path.{◌≡◌, refl, ap, ◌∙◌}
 use mathlib.Core.Bool.{Bool, true, false}
 use mathlib.Core.List.{List}
@@ -10,19 +12,11 @@ use lib.ListN.{length}
 use Rattle.trace.specs.Verdicts.{all_bits}
 use Rattle.session_text.specs.Pages.{session_page}
 use Rattle.session_text.specs.Claims.{Printable}
-use Rattle.session_page.specs.declared.Laid.{Laid}
-use Rattle.session_page.specs.declared.Laid.TheVariants as laid
+use Rattle.session_page.specs.declared.Cause as session
 use Rattle.session_page.specs.LayOut.{is_printable, LaidEnd, laid_end, lay_out_of}
 use Rattle.session_page.proofs.PrintableLaws.{is_graph_name_lem, not-bits}
 use Rattle.page.specs.declared.Cause.TheVariants.{ShortBuffer}
-use Rattle.page.specs.declared.Paged.{Paged}
-use Rattle.page.specs.declared.Paged.TheVariants.{Bytes, Refused}
 use Rattle.page.specs.Pages.{PageEnd, page_end, page_of}
-
--- the answer of lay_out, as that of a page
-unfoldable pub as_page : Laid → Paged
-as_page (laid.Bytes n) = Bytes n
-as_page (laid.Refused cause) = Refused ShortBuffer
 
 module _ (name verdicts out : List ℕ) (may : Printable name verdicts) (few : length verdicts ≤ 524288) where
   passes : is_printable name verdicts ≡ true
@@ -34,10 +28,10 @@ module _ (name verdicts out : List ℕ) (may : Printable name verdicts) (few : l
       go false e = absurd (not-bits name verdicts e may)
 
   abbrev page : LaidEnd → PageEnd
-  page x = page_end (as_page x.answer) x.page
+  page x = page_end (result_or x.answer (Err ShortBuffer)) x.page
 
-  pub laid_page_lem : {r : Laid} {left : List ℕ} → laid_end r left ≡ lay_out_of name verdicts out → page_end (as_page r) left ≡ page_of (session_page name verdicts) out
-  unfolding lay_out_of page_of as_page
+  pub laid_page_lem : {r : Result ℕ session.Cause} {left : List ℕ} → laid_end r left ≡ lay_out_of name verdicts out → page_end (result_or r (Err ShortBuffer)) left ≡ page_of (session_page name verdicts) out
+  unfolding lay_out_of page_of
   laid_page_lem e = ap page e ∙ go (dec_le (length (session_page name verdicts)) (length out))
     where
       go : Dec (length (session_page name verdicts) ≤ length out) → page (lay_out_of name verdicts out) ≡ page_of (session_page name verdicts) out

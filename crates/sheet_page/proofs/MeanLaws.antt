@@ -1,4 +1,5 @@
 -- What is printed of an input is what the contract claims. Assumes nothing.
+use Rattle.std.specs.Prelude.{Result, Ok, Err}
 use mathlib.Core.Path.{◌≡◌, refl, sym, ap, subst, ◌∙◌}
 use mathlib.Core.Bool.{Bool, true, false, cond, true≢false}
 use mathlib.Core.List.{List, [], ◌++◌, append_assoc}
@@ -31,9 +32,8 @@ use Rattle.judge.proofs.EndLaws.{cycles-most}
 use Rattle.page_text.specs.Parts.{graph_part, trace_part}
 use Rattle.page_text.proofs.ClaimLaws.{parts_are}
 use Rattle.page_text.specs.Lines.{field, refused_line, rejected_line, sum_line, cycle_line, report}
+use Rattle.page.specs.declared.Cause as page
 use Rattle.page.specs.declared.Cause.TheVariants.{ShortBuffer}
-use Rattle.page.specs.declared.Paged.{Paged}
-use Rattle.page.specs.declared.Paged.TheVariants as paged
 use Rattle.page.specs.Pages.{graph_page, judgement, trace_page, monitor_text, refusal_of, PageEnd, page_end, page_of}
 use Rattle.page.proofs.LengthLaws.{trace-any}
 use Rattle.session_text.specs.Pages.{rejected_of, session_page}
@@ -208,20 +208,20 @@ module _ (input : Bytes) (Prints : List ℕ → Type 0) (printed : Prints (sheet
   as_monitor name rest n r e = prints (named-sheet input n ∙ rest-alike r name rest (omega (arith, n.short, rest_shorter n)) e)
 
 -- ---- a page in a lent buffer is printed
-pub page-printed : (text out : List ℕ) {r : Paged} {left : List ℕ} → page_end r left ≡ page_of text out → Printed text out left r
+pub page-printed : (text out : List ℕ) {r : Result ℕ page.Cause} {left : List ℕ} → page_end r left ≡ page_of text out → Printed text out left r
 unfolding page_of refusal_of
 page-printed text out {r} {left} e = go (dec_le (length text) (length out))
   where
     go : Dec (length text ≤ length out) → Printed text out left r
     go (yes l) =
-        let is : page_end r left ≡ page_end (paged.Bytes (length text)) (text ++ drop (length text) out) = rw (le-leb (length text) (length out) l) at e in
+        let is : page_end r left ≡ page_end (Ok (length text)) (text ++ drop (length text) out) = rw (le-leb (length text) (length out) l) at e in
         printed-whole (ap (λ (p : PageEnd). p.answer) is) (ap (λ (p : PageEnd). p.out) is) l
     go (no l) =
-        let is : page_end r left ≡ page_end (paged.Refused ShortBuffer) out = rw (lt-leb (length text) (length out) (omega arith)) at e in
+        let is : page_end r left ≡ page_end (Err ShortBuffer) out = rw (lt-leb (length text) (length out) (omega arith)) at e in
         printed-short (ap (λ (p : PageEnd). p.answer) is) refl (ap (λ (p : PageEnd). p.out) is) (omega arith)
 
 -- ---- all that the contract says of an answer, which is of the page of the input
-pub page-means : (input out : List ℕ) {r : Paged} {left text : List ℕ} → page_end r left ≡ page_of text out → text ≡ sheet_text input
+pub page-means : (input out : List ℕ) {r : Result ℕ page.Cause} {left text : List ℕ} → page_end r left ≡ page_of text out → text ≡ sheet_text input
     → (page_end r left ≡ page_of (sheet_text input) out)
     × ((length (sheet_text input) ≤ 265518) × (PathsMean × (SheetMeans input (λ page. Printed page out left r) × AsMonitor input (λ page. Printed page out left r))))
 page-means input out {r} {left} e same =

@@ -81,6 +81,10 @@ module _ (input : List ℕ) (short : length input ≤ 65536) where
       go true e = absurd (never (first_line input) (after_line input) (named_so e))
       go false e = refl
 
+pub name-within : (input : List ℕ) → has_name input ≡ true → to_lf input < length input
+unfolding has_name
+name-within input h = ltb-true (to_lf input) (length input) (and_both (ltb (to_lf input) (length input)) (is_graph_name (first_line input)) h).0
+
 -- ---- as the code finds its end
 pub record EndsAt (input : List ℕ) (end : ℕ) : Type 0 where
   pub place : end ≡ to_lf input
@@ -115,3 +119,7 @@ module _ (input : List ℕ) where
     pub has_tested : has_name input ≡ named
     unfolding has_name
     has_tested = rw (lt-ltb (to_lf input) (length input) e.within, tested, e.place)
+
+  pub tested_name : {end : ℕ} → EndsAt input end → has_name input ≡ true → is_graph_name (take end input) ≡ true
+  unfolding has_name
+  tested_name {end} e h = rw e.place (and_both (ltb (to_lf input) (length input)) (is_graph_name (first_line input)) h).1

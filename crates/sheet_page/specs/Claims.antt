@@ -1,6 +1,6 @@
 -- What the contract of sheet_page claims of the page that is printed, by the bytes of the input and the page, and by what
 -- the monitor program prints, but not by the definitions that make the page. Assumes nothing.
-use Rattle.std.specs.Prelude.{◌≡◌, false, List, [], ◌∷◌, ◌++◌, ℕ, suc, ◌+◌, ◌<◌, ◌≤◌, length, drop}
+use Rattle.std.specs.Prelude.{Result, Ok, Err, ◌≡◌, false, List, [], ◌∷◌, ◌++◌, ℕ, suc, ◌+◌, ◌<◌, ◌≤◌, length, drop}
 use Prim.Native.Char.{code}
 use Prim.Native.String as string
 use Prim.Native.String.{String}
@@ -14,9 +14,8 @@ use Rattle.builder.specs.Build.{variables_of}
 use Rattle.trace.specs.Claims.{Cycles, lines_of, FirstWrong}
 use Rattle.page_text.specs.Claims.{Parts}
 use Rattle.page_text.specs.Lines.{refused_line}
+use Rattle.page.specs.declared.Cause as page
 use Rattle.page.specs.declared.Cause.TheVariants.{ShortBuffer}
-use Rattle.page.specs.declared.Paged.{Paged}
-use Rattle.page.specs.declared.Paged.TheVariants.{Bytes, Refused}
 use Rattle.page.specs.Pages.{refusal_of, monitor_text}
 use Rattle.session_text.specs.Claims.{GraphName, Decimal, Rejected, InColumns}
 
@@ -28,9 +27,9 @@ ascii (string.◌∷◌ c s) = code c ∷ ascii s
 -- ---- a text is printed
 -- it stands first in the buffer, of which the rest is as it was, and its length is answered; or the buffer is too short
 -- for it, is as it was, and 12 is answered
-pub data Printed (text before after : List ℕ) (answer : Paged) : Type 0 where
-  whole : answer ≡ Bytes (length text) → after ≡ text ++ drop (length text) before → length text ≤ length before → Printed text before after answer
-  short : answer ≡ Refused ShortBuffer → refusal_of ShortBuffer ≡ record { number = 12; line = 0 } → after ≡ before → length before < length text
+pub data Printed (text before after : List ℕ) (answer : Result ℕ page.Cause) : Type 0 where
+  whole : answer ≡ Ok (length text) → after ≡ text ++ drop (length text) before → length text ≤ length before → Printed text before after answer
+  short : answer ≡ Err ShortBuffer → refusal_of ShortBuffer ≡ record { number = 12; line = 0 } → after ≡ before → length before < length text
       → Printed text before after answer
 
 -- ---- which text

@@ -14,12 +14,11 @@ ghost use Rattle.session_text.specs.Pages.{session_page};
 ghost use Rattle.session_text.specs.Claims.{Printable};
 ghost use Rattle.session_page.specs.LayOut.{is_graph_name};
 ghost use Rattle.sheet_page.specs.Sheets.{input_refusal, trace_sheet, sheet_text};
+ghost use Rattle.sheet_page.specs.Private.Names.{name_end};
 ghost use Rattle.sheet_page.specs.Claims.{Printed, SheetMeans, AsMonitor};
 
-use judge::Judged;
-use page::{Paged, refused_page};
-use page_text::graph_length;
-use session_page::Laid;
+use page::refused_page;
+use page_text::graph_and_trace;
 use text::{Line, Refusal};
 
 // The longest input of a program.
@@ -53,65 +52,56 @@ impl InputFault {
 }
 
 // The session page of verdict bytes, as a page.
-fn laid_page(out: &mut [u8], name: &[u8], verdicts: &[u8]) -> Paged
+fn laid_page(out: &mut [u8], name: &[u8], verdicts: &[u8]) -> Result<usize, page::Cause>
     requires { Printable name.now verdicts.now × (length verdicts.now ≤ 524288) }
     ensures { page_end result out.new ≡ page_of (session_page name.now verdicts.now) out.old }
 {
-    let laid = session_page::lay_out(name, verdicts, out);
-    match laid {
-        Laid::Bytes(end) => Paged::Bytes(end),
-        Laid::Refused(_) => Paged::Refused(page::Cause::ShortBuffer),
-    }
-}
-
-// The page of a graph name, a graph text and a trace.
-fn judged_sheet(out: &mut [u8], name: &[u8], graph: &[u8], trace: &[u8]) -> Paged
-    requires { (is_graph_name name.now ≡ true) × (length trace.now ≤ 65536) }
-    ensures { page_end result out.new ≡ page_of (graph_page (graph_of graph.now) (trace_sheet name.now trace.now)) out.old }
-{
-    let mut verdicts = [0u8; MAX_CYCLES];
-    let judged = judge::judge(graph, trace, &mut verdicts);
-    match judged {
-        Judged::Done(tally, _) => {
-            let end = tally.cycles as usize;
-            laid_page(out, name, &verdicts[..end])
-        }
-        Judged::Refused(cause) => refused_page(out, cause.refusal()),
-    }
+    session_page::lay_out(name, verdicts, out).or(Err(page::Cause::ShortBuffer))
 }
 
 // The page of a graph name and the monitor's input.
-fn named_sheet(out: &mut [u8], name: &[u8], rest: &[u8]) -> Paged
+fn named_sheet(out: &mut [u8], name: &[u8], rest: &[u8]) -> Result<usize, page::Cause>
     requires { (is_graph_name name.now ≡ true) × (length rest.now ≤ 65536) }
     ensures { page_end result out.new ≡ page_of (graph_page (graph_of (graph_part rest.now)) (trace_sheet name.now (trace_part rest.now))) out.old }
 {
-    let end = graph_length(rest);
-    let at = if end < rest.len() { end + 2 } else { end };
-    judged_sheet(out, name, &rest[..end], &rest[at..])
+    let (graph, trace) = graph_and_trace(rest);
+    let mut verdicts = [0u8; MAX_CYCLES];
+    match judge::judge(graph, trace, &mut verdicts) {
+        Ok((tally, _)) => {
+            let end = tally.cycles as usize;
+            laid_page(out, name, &verdicts[..end])
+        }
+        Err(cause) => refused_page(out, cause.refusal()),
+    }
+}
+
+// Where the line of an input ends that is its graph name.
+fn name_end(input: &[u8]) -> Result<usize, InputFault>
+    ensures { result ≡ name_end input.now }
+{
+    if input.len() > MAX_INPUT {
+        return Err(InputFault::TooLong);
+    }
+    let Line::Ended(end) = text::line_at(input, 0) else {
+        return Err(InputFault::NoGraphName);
+    };
+    if !session_page::is_graph_name(&input[..end]) {
+        return Err(InputFault::NoGraphName);
+    }
+    Ok(end)
 }
 
 // The page of the sheet program: a line with the graph name, graph, a line `T`, trace. It prints the session page, or the
 // refusal.
-pub fn sheet_page(input: &[u8], out: &mut [u8]) -> Paged
+pub fn sheet_page(input: &[u8], out: &mut [u8]) -> Result<usize, page::Cause>
     ensures out_after { page_end result out.new ≡ page_of (sheet_text input.now) out.old }
     ensures fits { length (sheet_text input.now) ≤ 265518 }
     ensures paths { PathsMean }
     ensures sheet { SheetMeans input.now (λ text. Printed text out.old out.new result) }
     ensures monitor { AsMonitor input.now (λ text. Printed text out.old out.new result) }
 {
-    if input.len() > MAX_INPUT {
-        let fault = InputFault::TooLong;
-        return refused_page(out, fault.refusal());
+    match name_end(input) {
+        Ok(end) => named_sheet(out, &input[..end], &input[end + 1..]),
+        Err(fault) => refused_page(out, fault.refusal()),
     }
-    let line = text::line_at(input, 0);
-    let Line::Ended(end) = line else {
-        let fault = InputFault::NoGraphName;
-        return refused_page(out, fault.refusal());
-    };
-    let name = &input[..end];
-    if !session_page::is_graph_name(name) {
-        let fault = InputFault::NoGraphName;
-        return refused_page(out, fault.refusal());
-    }
-    named_sheet(out, name, &input[end + 1..])
 }

@@ -1,4 +1,5 @@
 -- Laws of a run: the turn of the loop over the cycles, and what a run answers and leaves. Assumes nothing.
+use Rattle.std.specs.Prelude.{Result, Ok, Err}
 use mathlib.Core.Path.{◌≡◌, refl, sym, ap, ap₂, ◌∙◌}
 use mathlib.Core.Bool.{true}
 use mathlib.Core.List.{List, [], ◌∷◌, ◌++◌}
@@ -9,10 +10,7 @@ use lib.ListN.{length, set, take, drop, length-append, length-drop}
 use lib.Seq.{drop-drop, length-take-le, take_at}
 use Rattle.netlist.specs.Layout.{input_count}
 use Rattle.calls.specs.declared.refusal.Cause.{Cause}
-use Rattle.calls.specs.declared.refusal.Tested.{Tested}
-use Rattle.calls.specs.declared.refusal.Tested.TheVariants.{Passed, Failed}
 use Rattle.simulator.specs.declared.outcome.Verdict.{Verdict}
-use Rattle.simulator.specs.declared.outcome.RunOutcome.TheVariants.{Done, Refused}
 use Rattle.calls.specs.declared.tally.Tally.{Tally}
 use Rattle.calls.specs.Tallies.{counted, has_room}
 use Rattle.trace.specs.Traces.{line_count, cycles_from, cycles_of}
@@ -26,12 +24,12 @@ use Rattle.simulator.proofs.CycleLaws.{grow}
 
 -- ---- what a run answers and leaves
 module _ (net trace latches values verdicts : List ℕ) (t : Tally) where
-  pub run-refused : (c : Tested) (cause : Cause) → c ≡ run_check net trace (length latches) (length values) (length verdicts) t → c ≡ Failed cause
-      → run_end (record { outcome = Refused cause; tally = t }) latches values verdicts ≡ run_of net trace latches values verdicts t
+  pub run-refused : (c : Result Unit Cause) (cause : Cause) → c ≡ run_check net trace (length latches) (length values) (length verdicts) t → c ≡ Err cause
+      → run_end (record { outcome = Err cause; tally = t }) latches values verdicts ≡ run_of net trace latches values verdicts t
   unfolding run_of run_as
   run-refused c cause is e = rw (← is, e)
 
-  pub run_is : run_check net trace (length latches) (length values) (length verdicts) t ≡ Passed
+  pub run_is : run_check net trace (length latches) (length values) (length verdicts) t ≡ Ok tt
       → run_of net trace latches values verdicts t ≡ ran_to (run_cycles net (running latches values [] t) (cycles_of (input_count net) trace)) verdicts
   unfolding run_of run_as
   run_is e = rw e
@@ -86,11 +84,11 @@ module _ (net trace : List ℕ) (n count : ℕ) (latches₀ values₀ verdicts�
 
   -- what the loop asks: the run is not refused, with the netlist's inputs and the trace's lines
   pub record Asked : Type 0 where
-    pub passed : run_check net trace (length latches₀) (length values₀) (length verdicts₀) t₀ ≡ Passed
+    pub passed : run_check net trace (length latches₀) (length values₀) (length verdicts₀) t₀ ≡ Ok tt
     pub inputs : n ≡ input_count net
     pub lines : count ≡ length trace / (n + 1)
 
-  pub asked : run_check net trace (length latches₀) (length values₀) (length verdicts₀) t₀ ≡ Passed → n ≡ input_count net → count ≡ length trace / (n + 1) → Asked
+  pub asked : run_check net trace (length latches₀) (length values₀) (length verdicts₀) t₀ ≡ Ok tt → n ≡ input_count net → count ≡ length trace / (n + 1) → Asked
   asked e i l = record { passed = e; inputs = i; lines = l }
 
   counts : Asked → count ≡ line_count (input_count net) trace
@@ -164,17 +162,17 @@ module _ (net trace : List ℕ) (n count : ℕ) (latches₀ values₀ verdicts�
               ∙ g.same;
         }
 
-    ended : count ≤ k → run_end (record { outcome = Done (verdict_of (take count verdicts)); tally = t }) latches values verdicts ≡ ran_to (running latches values g.bytes t) verdicts₀
+    ended : count ≤ k → run_end (record { outcome = Ok (verdict_of (take count verdicts)); tally = t }) latches values verdicts ≡ ran_to (running latches values g.bytes t) verdicts₀
     unfolding ran_to
     ended h =
         let e : count ≡ k = omega (arith, g.some) in
         rw (e, g.written, take_at g.bytes (drop k verdicts₀) k g.bytes-length, g.bytes-length)
 
     pub going_done : Asked → count ≤ k → (v : Verdict) → v ≡ verdict_of (take count verdicts)
-        → run_end (record { outcome = Done v; tally = t }) latches values verdicts ≡ run_of net trace latches₀ values₀ verdicts₀ t₀
+        → run_end (record { outcome = Ok v; tally = t }) latches values verdicts ≡ run_of net trace latches₀ values₀ verdicts₀ t₀
     unfolding cycles_of
     going_done a h v ev =
-        ap (λ (x : Verdict). run_end (record { outcome = Done x; tally = t }) latches values verdicts) ev
+        ap (λ (x : Verdict). run_end (record { outcome = Ok x; tally = t }) latches values verdicts) ev
         ∙ ended h
         ∙ ap (λ (r : Running). ran_to r verdicts₀) (sym (run_none net trace n count k at (running latches values g.bytes t) h) ∙ g.same
         ∙ ap₂ (λ (i m : ℕ). run_cycles net (running latches₀ values₀ [] t₀) (cycles_from i m trace)) a.inputs (counts a))

@@ -1,4 +1,5 @@
 -- The verdict bytes and the verdict of a run, in terms of the cycles' outputs alone. Assumes nothing.
+use Rattle.std.specs.Prelude.{Ok}
 use mathlib.Core.Path.{◌≡◌, refl, sym, ap, ap₂, ◌∙◌}
 use mathlib.Core.List.{List, [], ◌∷◌, ◌++◌, append_assoc, append-nil, map}
 use Prim.Native.Nat.{ℕ, suc, ◌+◌}
@@ -8,8 +9,6 @@ use lib.Seq.{take_at}
 use Rattle.netlist.specs.Layout.{input_count, latch_count}
 use Rattle.netlist.specs.Meaning.{Ops, words, bit_of, values_of, next_of, output_of}
 use Rattle.netlist.proofs.MeaningLaws.{length_nexts}
-use Rattle.calls.specs.declared.refusal.Tested.TheVariants.{Passed}
-use Rattle.simulator.specs.declared.outcome.RunOutcome.TheVariants.{Done}
 use Rattle.calls.specs.declared.tally.Tally.{Tally}
 use Rattle.calls.specs.Refusals.{run_check}
 use Rattle.trace.specs.Traces.{cycles_of}
@@ -68,7 +67,7 @@ module _ (net : List ℕ) where
       ∙ ap (λ (n : ℕ). length r.bytes + n) (length-map (outputs_of words net cs (held r)) verdict_byte ∙ length-outputs words net cs (held r))
 
 -- ---- what a run that is not refused answers and leaves
-module _ (net trace latches values verdicts : List ℕ) (t : Tally) (e : run_check net trace (length latches) (length values) (length verdicts) t ≡ Passed) where
+module _ (net trace latches values verdicts : List ℕ) (t : Tally) (e : run_check net trace (length latches) (length values) (length verdicts) t ≡ Ok tt) where
   abbrev cycles : List (List ℕ)
   cycles = cycles_of (input_count net) trace
 
@@ -88,6 +87,6 @@ module _ (net trace latches values verdicts : List ℕ) (t : Tally) (e : run_che
       ∙ ap₂ (λ (b : List ℕ) (m : ℕ). b ++ drop m verdicts) (run-bytes net cycles r) n
 
   -- the verdict of those bytes
-  pub run-outcome : (run_of net trace latches values verdicts t).answer.outcome ≡ Done (verdict_of bytes)
+  pub run-outcome : (run_of net trace latches values verdicts t).answer.outcome ≡ Ok (verdict_of bytes)
   unfolding ran_to
-  run-outcome = ap (λ (x : RunEnd). x.answer.outcome) ends ∙ ap (λ (b : List ℕ). Done (verdict_of b)) (run-bytes net cycles (running latches values [] t))
+  run-outcome = ap (λ (x : RunEnd). x.answer.outcome) ends ∙ ap (λ (b : List ℕ). Ok (verdict_of b)) (run-bytes net cycles (running latches values [] t))

@@ -1,4 +1,5 @@
 -- A run is its steps, one after another: each cycle of a run that is not refused is a step that is not refused. Assumes nothing.
+use Rattle.std.specs.Prelude.{Ok}
 use mathlib.Core.Path.{◌≡◌, refl, sym, ap, ◌∙◌}
 use mathlib.Core.Bool.{true}
 use mathlib.Core.List.{List, [], ◌∷◌}
@@ -7,7 +8,6 @@ use lib.ListN.{length}
 use Rattle.netlist.specs.Layout.{maximum, input_count, latch_count}
 use Rattle.netlist.specs.Valid.{is_netlist}
 use Rattle.netlist.proofs.ValidLaws.{valid}
-use Rattle.calls.specs.declared.refusal.Tested.TheVariants.{Passed}
 use Rattle.calls.specs.declared.tally.Tally.{Tally}
 use Rattle.calls.specs.Tallies.{has_room}
 use Rattle.trace.specs.Traces.{is_cycle, cycles_of}
@@ -26,7 +26,7 @@ use Rattle.simulator.proofs.RunLaws.{run_is}
 
 module _ (net : List ℕ) (v : is_netlist net ≡ true) where
   -- a step that is not refused is a cycle of a run
-  one_step : (c : List ℕ) (r : Running) → step_check net c (length r.latches) (length r.values) r.tally ≡ Passed
+  one_step : (c : List ℕ) (r : Running) → step_check net c (length r.latches) (length r.values) r.tally ≡ Ok tt
       → one_more net c (went r) ≡ went (run_cycle net c r)
   unfolding run_cycle after_step one_more
   one_step c r e = ap (λ (x : StepEnd). after_step x.answer.outcome x r.bytes) (sym (step_is net c r.latches r.values r.tally e))

@@ -1,4 +1,5 @@
 -- Laws of a start: the words with which the latches start, and what each of their lanes is. Assumes nothing.
+use Rattle.std.specs.Prelude.{Result, Ok, Err}
 use mathlib.Core.Path.{◌≡◌, refl, sym, ap, ap₂, ◌∙◌}
 use mathlib.Core.Bool.{Bool, true, false, cond, not}
 use mathlib.Core.List.{List, [], ◌∷◌, ◌++◌}
@@ -18,9 +19,6 @@ use Rattle.netlist.proofs.EachLaws.{each_at}
 use Rattle.netlist.proofs.LaneLaws.{lane_word, word_same}
 use Rattle.netlist.proofs.ValidLaws.{free_more, outline_of, free-below}
 use Rattle.calls.specs.declared.refusal.Cause.{Cause}
-use Rattle.calls.specs.declared.refusal.Tested.{Tested}
-use Rattle.calls.specs.declared.refusal.Tested.TheVariants.{Passed, Failed}
-use Rattle.simulator.specs.declared.outcome.StartOutcome.TheVariants.{Ready, Refused}
 use Rattle.calls.specs.declared.tally.Tally.{Tally}
 use Rattle.calls.specs.Tallies.{cleared}
 use Rattle.calls.specs.Refusals.{start_check}
@@ -157,30 +155,30 @@ module _ (net : List ℕ) (k n : ℕ) where
 
 -- ---- what a start answers and leaves
 module _ (net latches : List ℕ) (t : Tally) where
-  pub start-refused : (c : Tested) (cause : Cause) → c ≡ start_check net (length latches) → c ≡ Failed cause
-      → start_end (record { outcome = Refused cause; tally = t }) latches ≡ start_of net latches t
+  pub start-refused : (c : Result Unit Cause) (cause : Cause) → c ≡ start_check net (length latches) → c ≡ Err cause
+      → start_end (record { outcome = Err cause; tally = t }) latches ≡ start_of net latches t
   unfolding start_of start_as
   start-refused c cause is e = rw (← is, e)
 
-  start_is : start_check net (length latches) ≡ Passed
-      → start_end (record { outcome = Ready; tally = cleared }) (start_words net (latch_count net) ++ drop (latch_count net) latches) ≡ start_of net latches t
+  start_is : start_check net (length latches) ≡ Ok tt
+      → start_end (record { outcome = (Ok tt); tally = cleared }) (start_words net (latch_count net) ++ drop (latch_count net) latches) ≡ start_of net latches t
   unfolding start_of start_as
   start_is e = rw e
 
-  pub start-ready : (c : Tested) → c ≡ start_check net (length latches) → c ≡ Passed → (l : ℕ) → l ≡ latch_count net → (ls : List ℕ) → ls ≡ start_words net l ++ drop l latches
-      → start_end (record { outcome = Ready; tally = cleared }) ls ≡ start_of net latches t
+  pub start-ready : (c : Result Unit Cause) → c ≡ start_check net (length latches) → c ≡ Ok tt → (l : ℕ) → l ≡ latch_count net → (ls : List ℕ) → ls ≡ start_words net l ++ drop l latches
+      → start_end (record { outcome = (Ok tt); tally = cleared }) ls ≡ start_of net latches t
   start-ready c is e l el ls els =
-      ap (start_end (record { outcome = Ready; tally = cleared })) (els ∙ ap (λ (i : ℕ). start_words net i ++ drop i latches) el) ∙ start_is (sym is ∙ e)
+      ap (start_end (record { outcome = (Ok tt); tally = cleared })) (els ∙ ap (λ (i : ℕ). start_words net i ++ drop i latches) el) ∙ start_is (sym is ∙ e)
 
   -- each latch starts with its word
-  word-starts : start_check net (length latches) ≡ Passed → (k : ℕ) → k < latch_count net → get_or (start_of net latches t).latches k 0 ≡ word_of (start_bit net k)
+  word-starts : start_check net (length latches) ≡ Ok tt → (k : ℕ) → k < latch_count net → get_or (start_of net latches t).latches k 0 ≡ word_of (start_bit net k)
   word-starts e k l =
       let S = start_words net (latch_count net) in
       rw (← (start_is e))
       (get_or-append S (drop (latch_count net) latches) 0 k (rw (length-starts net (latch_count net)) l) ∙ start-at net (latch_count net) k l)
 
   -- each lane of each latch starts with its bit
-  pub lane-starts : start_check net (length latches) ≡ Passed → (n : ℕ) → n < 64 → (k : ℕ) → k < latch_count net
+  pub lane-starts : start_check net (length latches) ≡ Ok tt → (n : ℕ) → n < 64 → (k : ℕ) → k < latch_count net
       → lane n (get_or (start_of net latches t).latches k 0) ≡ start_bit net k n
   lane-starts e n h k l = ap (lane n) (word-starts e k l) ∙ lane_word n (start_bit net k) h
 
@@ -190,15 +188,15 @@ module _ (net latches : List ℕ) (t : Tally) where
       let b = lane-starts e n h k l in
       record { zeros = λ z. b ∙ bit-zero net k n z; ones = λ o. b ∙ bit-one net k n o; free = λ f. b ∙ bit-free net k n f }
 
-  kept_as : (c : Tested) (cause : Cause) → (start_as c net latches t).answer.outcome ≡ Refused cause → start_as c net latches t ≡ start_end (record { outcome = Refused cause; tally = t }) latches
+  kept_as : (c : Result Unit Cause) (cause : Cause) → (start_as c net latches t).answer.outcome ≡ Err cause → start_as c net latches t ≡ start_end (record { outcome = Err cause; tally = t }) latches
   unfolding start_as
-  kept_as Passed cause e = let z : ◌≡◌ {A = ℕ} 0 1 = cc in absurd (omega arith)
-  kept_as (Failed told) cause e = let k : told ≡ cause = cc in rw k refl
+  kept_as (Ok tt) cause e = let z : ◌≡◌ {A = ℕ} 0 1 = cc in absurd (omega arith)
+  kept_as (Err told) cause e = let k : told ≡ cause = cc in rw k refl
 
-  ready_by : (c : Tested) → (start_as c net latches t).answer.outcome ≡ Ready → c ≡ Passed
+  ready_by : (c : Result Unit Cause) → (start_as c net latches t).answer.outcome ≡ Ok tt → c ≡ Ok tt
   unfolding start_as
-  ready_by Passed e = refl
-  ready_by (Failed cause) e = let z : ◌≡◌ {A = ℕ} 0 1 = cc in absurd (omega arith)
+  ready_by (Ok tt) e = refl
+  ready_by (Err cause) e = let z : ◌≡◌ {A = ℕ} 0 1 = cc in absurd (omega arith)
 
   -- the words of the uninitialised latches are those that the formula gives
   pub start_computed : WordsOfStart net latches t
@@ -218,7 +216,7 @@ module _ (net latches : List ℕ) (t : Tally) where
             (λ cause e. (sym (ap (λ (x : StartEnd). x.answer.outcome) (start-refused _ cause refl e)), refl));
       }
     where
-      words-free : start_check net (length latches) ≡ Passed → (k : ℕ) → k < latch_count net → is_free net k ≡ true
+      words-free : start_check net (length latches) ≡ Ok tt → (k : ℕ) → k < latch_count net → is_free net k ≡ true
           → (free_count net k < 6) × (get_or (start_of net latches t).latches k 0 ≡ free_word (free_count net k))
       words-free e k l f =
           let b = free-below net (outline_of net (start-passed net (length latches) _ refl e).netlist) k l f in

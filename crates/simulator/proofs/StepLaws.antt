@@ -1,4 +1,5 @@
 -- Laws of a step: what it answers and leaves, what each lane of it shows, and what it adds to the tally. Assumes nothing.
+use Rattle.std.specs.Prelude.{Result, Ok, Err}
 use mathlib.Core.Path.{◌≡◌, refl, sym, ap, ◌∙◌}
 use mathlib.Core.Bool.{Bool, true≢false}
 use mathlib.Core.List.{List, map}
@@ -15,9 +16,6 @@ use Rattle.netlist.proofs.MeaningLaws.{length_nexts, nexts_at, lane_hom, lit_hom
 use Rattle.netlist.proofs.AigerLaws.{means}
 use Rattle.calls.specs.declared.refusal.Cause.{Cause}
 use Rattle.calls.specs.declared.refusal.Cause.TheVariants.{FullTally}
-use Rattle.calls.specs.declared.refusal.Tested.{Tested}
-use Rattle.calls.specs.declared.refusal.Tested.TheVariants.{Passed, Failed}
-use Rattle.simulator.specs.declared.outcome.StepOutcome.TheVariants.{Output, Refused}
 use Rattle.calls.specs.declared.tally.Tally.{Tally}
 use Rattle.calls.specs.Tallies.{counted}
 use Rattle.calls.specs.Refusals.{step_check}
@@ -29,23 +27,29 @@ use Rattle.calls.proofs.RefusalLaws.{StepReady, step_passed, step_full}
 use Rattle.calls.proofs.ClaimLaws.{step_tested}
 use Rattle.simulator.proofs.CycleLaws.{length-words}
 
+-- steps that answer the same answer the same words
+pub same_words : {a b x y : ℕ} → ◌≡◌ {A = Result (ℕ × ℕ) Cause} (Ok (a, b)) (Ok (x, y)) → (a ≡ x) × (b ≡ y)
+same_words {a} {b} {x} {y} e =
+    let p : ◌≡◌ {A = ℕ × ℕ} (a, b) (x, y) = cc in
+    (ap (λ (q : ℕ × ℕ). q.0) p, ap (λ (q : ℕ × ℕ). q.1) p)
+
 module _ (net cycle latches values : List ℕ) (t : Tally) where
   -- ---- what a step answers and leaves
-  pub step_refused : (c : Tested) (cause : Cause) → c ≡ step_check net cycle (length latches) (length values) t → c ≡ Failed cause
-      → step_end (record { outcome = Refused cause; tally = t }) latches values ≡ step_of net cycle latches values t
+  pub step_refused : (c : Result Unit Cause) (cause : Cause) → c ≡ step_check net cycle (length latches) (length values) t → c ≡ Err cause
+      → step_end (record { outcome = Err cause; tally = t }) latches values ≡ step_of net cycle latches values t
   unfolding step_of step_as
   step_refused c cause is e = rw (← is, e)
 
-  pub step_is : step_check net cycle (length latches) (length values) t ≡ Passed
-      → step_end (record { outcome = Output (output_word net cycle latches) (word_checked net cycle latches); tally = counted t (output_word net cycle latches) (word_checked net cycle latches) })
+  pub step_is : step_check net cycle (length latches) (length values) t ≡ Ok tt
+      → step_end (record { outcome = Ok ((output_word net cycle latches), (word_checked net cycle latches)); tally = counted t (output_word net cycle latches) (word_checked net cycle latches) })
       (latches_after net cycle latches) (values_after net cycle latches values)
       ≡ step_of net cycle latches values t
   unfolding step_of step_as
   step_is e = rw e
 
-  pub step_done : (c : Tested) → c ≡ step_check net cycle (length latches) (length values) t → c ≡ Passed → (w d : ℕ) (ls vs : List ℕ) (t' : Tally)
+  pub step_done : (c : Result Unit Cause) → c ≡ step_check net cycle (length latches) (length values) t → c ≡ Ok tt → (w d : ℕ) (ls vs : List ℕ) (t' : Tally)
       → w ≡ output_word net cycle latches → d ≡ word_checked net cycle latches → ls ≡ latches_after net cycle latches → vs ≡ values_after net cycle latches values → t' ≡ counted t w d
-      → step_end (record { outcome = Output w d; tally = t' }) ls vs ≡ step_of net cycle latches values t
+      → step_end (record { outcome = Ok (w, d); tally = t' }) ls vs ≡ step_of net cycle latches values t
   step_done c is e w d ls vs t' ew ed el ev et = rw (et, ew, ed, el, ev) (step_is (sym is ∙ e))
 
   -- ---- lane n of a step that is not refused
@@ -89,7 +93,7 @@ module _ (net cycle latches values : List ℕ) (t : Tally) where
     unfolding word_checked output_of
     lane-checked o = rw o (lit_hom words bools (lane n) (lane_hom n h) W (get_or net (output_at net 1) 0))
 
-    shown : (e : StepEnd) → e.answer.outcome ≡ Output (output_word net cycle latches) (word_checked net cycle latches) → e.latches ≡ latches_after net cycle latches → e.values ≡ values_after net cycle latches values → LaneOfStep n net cycle latches e
+    shown : (e : StepEnd) → e.answer.outcome ≡ Ok ((output_word net cycle latches), (word_checked net cycle latches)) → e.latches ≡ latches_after net cycle latches → e.values ≡ values_after net cycle latches values → LaneOfStep n net cycle latches e
     shown e eo el ev =
         let one = (means net).aiger r.netlist ins held (length-map cycle (bit_of bools) ∙ cycle-length (input_count net) cycle r.bits) (length-map (take (latch_count net) latches) (lane n) ∙ length-take-le (latch_count net) latches r.latches) in
         let same : map (lane n) (take (maximum net + 1) e.values) ≡ values_of bools net ins held = ap (λ (x : List ℕ). map (lane n) (take (maximum net + 1) x)) ev ∙ lane-front in
@@ -128,15 +132,15 @@ module _ (net cycle latches values : List ℕ) (t : Tally) where
         (length-words net cycle latches (valid net r.netlist) (cycle-length (input_count net) cycle r.bits) r.latches),
   )
 
-  counts_as : (k : Tested) → step_check net cycle (length latches) (length values) t ≡ k → StepCounts net cycle latches values t (step_as k net cycle latches values t)
+  counts_as : (k : Result Unit Cause) → step_check net cycle (length latches) (length values) t ≡ k → StepCounts net cycle latches values t (step_as k net cycle latches values t)
   unfolding step_as
-  counts_as Passed is =
+  counts_as (Ok tt) is =
       let ow = output_word net cycle latches in
       let cw = word_checked net cycle latches in
       let more = cycle-more t ow cw in
       record {
-        counts = λ w c e. let ew : ow ≡ w = cc in let ec : cw ≡ c = cc in rw (← ew, ← ec) more;
-        one-output = λ w c e o. let ec : cw ≡ c = cc in (sym ec ∙ none o, more.unchecked (λ n l. ap (lane n) (none o) ∙ lane-zero n));
+        counts = λ w c e. let q = same_words e in rw (← q.0, ← q.1) more;
+        one-output = λ w c e o. let q = same_words e in (sym q.1 ∙ none o, more.unchecked (λ n l. ap (lane n) (none o) ∙ lane-zero n));
         guarded = λ w c e. room_fits t 1 (step_passed net cycle (length latches) (length values) t _ (sym is) refl).room;
         surplus = λ w c e. behind (step_passed net cycle (length latches) (length values) t _ (sym is) refl);
         passed = λ w c e. is;
@@ -144,7 +148,7 @@ module _ (net cycle latches values : List ℕ) (t : Tally) where
         tests = step_tested _ _ net cycle (length latches) (length values) t (λ _. (ow, cw, refl)) (λ cause e. let z : ◌≡◌ {A = ℕ} 0 1 = cc in absurd (omega arith));
         kept = λ cause e. let z : ◌≡◌ {A = ℕ} 0 1 = cc in absurd (omega arith);
       }
-  counts_as (Failed cause) is =
+  counts_as (Err cause) is =
       record {
         counts = λ w c e. let z : ◌≡◌ {A = ℕ} 0 1 = cc in absurd (omega arith);
         one-output = λ w c e. let z : ◌≡◌ {A = ℕ} 0 1 = cc in absurd (omega arith);
@@ -153,8 +157,8 @@ module _ (net cycle latches values : List ℕ) (t : Tally) where
         guarded = λ w c e. let z : ◌≡◌ {A = ℕ} 0 1 = cc in absurd (omega arith);
         full = λ e f.
             let k : cause ≡ FullTally = cc in
-            true≢false (sym (fits-room t 1 f) ∙ step_full net cycle (length latches) (length values) t (is ∙ ap Failed k));
-        tests = step_tested _ _ net cycle (length latches) (length values) t (λ e. let z : ◌≡◌ {A = ℕ} 0 1 = cc in absurd (omega arith)) (λ told e. let k : cause ≡ told = cc in (ap Refused k, refl));
+            true≢false (sym (fits-room t 1 f) ∙ step_full net cycle (length latches) (length values) t (is ∙ ap Err k));
+        tests = step_tested _ _ net cycle (length latches) (length values) t (λ e. let z : ◌≡◌ {A = ℕ} 0 1 = cc in absurd (omega arith)) (λ told e. let k : cause ≡ told = cc in (ap Err k, refl));
         kept = λ told e. let k : cause ≡ told = cc in rw k refl;
       }
 

@@ -1,4 +1,5 @@
 -- The verdict of a run is rejected exactly if some cycle has the byte 1. Assumes nothing.
+use Rattle.std.specs.Prelude.{Ok}
 use mathlib.Core.Path.{◌≡◌, refl, sym, ap, subst, ◌∙◌}
 use mathlib.Core.Bool.{Bool, true, false, cond}
 use mathlib.Core.Logic.{◌⊎◌, inl, inr, ⊎_elim}
@@ -10,7 +11,6 @@ use lib.ListN.{length, get_or, take, drop, length-map, get_or-append}
 use borrow.Author.Tests.{ne_eqb}
 use Rattle.netlist.specs.Layout.{input_count, latch_count}
 use Rattle.netlist.specs.Meaning.{words}
-use Rattle.calls.specs.declared.refusal.Tested.TheVariants.{Passed}
 use Rattle.calls.specs.declared.tally.Tally.{Tally}
 use Rattle.calls.specs.Tallies.{is_rejected}
 use Rattle.calls.specs.Refusals.{run_check}
@@ -63,7 +63,7 @@ zero-or-one (w ∷ ws) = by (is_rejected w) refl (zero-or-one ws)
     by false i (inl h) = inl (first-zero w ws (ap (λ (b : Bool). cond b 1 0) i) h)
 
 -- ---- of a run that is not refused
-module _ (net trace latches values verdicts : List ℕ) (t : Tally) (e : run_check net trace (length latches) (length values) (length verdicts) t ≡ Passed) where
+module _ (net trace latches values verdicts : List ℕ) (t : Tally) (e : run_check net trace (length latches) (length values) (length verdicts) t ≡ Ok tt) where
   abbrev cycles : List (List ℕ)
   cycles = cycles_of (input_count net) trace
 

@@ -1,12 +1,10 @@
 -- Run: the cycles of a trace, one after another. It writes one byte a cycle, 1 rejected or 0 accepted;
 -- the value words hold the last cycle's values, or are untouched by an empty trace. Assumes nothing.
-use Rattle.std.specs.Prelude.{cond, List, [], ◌∷◌, ◌++◌, ℕ, eqb, length, drop}
+use Rattle.std.specs.Prelude.{Result, Ok, Err, cond, List, [], ◌∷◌, ◌++◌, ℕ, eqb, length, drop}
+use Rattle.calls.specs.declared.refusal.Cause.{Cause}
 use Rattle.netlist.specs.Layout.{input_count}
-use Rattle.calls.specs.declared.refusal.Tested.{Tested}
-use Rattle.calls.specs.declared.refusal.Tested.TheVariants.{Passed, Failed}
 use Rattle.simulator.specs.declared.outcome.Verdict.{Verdict}
 use Rattle.simulator.specs.declared.outcome.Verdict.TheVariants.{Accepted, Rejected}
-use Rattle.simulator.specs.declared.outcome.RunOutcome.TheVariants.{Done, Refused}
 use Rattle.simulator.specs.declared.outcome.Ran.{Ran}
 use Rattle.calls.specs.declared.tally.Tally.{Tally}
 use Rattle.calls.specs.Tallies.{is_rejected, counted}
@@ -59,14 +57,14 @@ run_end r l v b = record { answer = r; latches = l; values = v; verdicts = b }
 -- a run that has come to its end: its bytes stand first in the verdict buffer, which keeps its surplus
 unfoldable pub ran_to : Running → List ℕ → RunEnd
 ran_to r verdicts =
-    run_end (record { outcome = Done (verdict_of r.bytes); tally = r.tally }) r.latches r.values
+    run_end (record { outcome = Ok (verdict_of r.bytes); tally = r.tally }) r.latches r.values
     (r.bytes ++ drop (length r.bytes) verdicts)
 
-unfoldable pub run_as : Tested → List ℕ → List ℕ → List ℕ → List ℕ → List ℕ → Tally → RunEnd
-run_as Passed net trace latches values verdicts t =
+unfoldable pub run_as : Result Unit Cause → List ℕ → List ℕ → List ℕ → List ℕ → List ℕ → Tally → RunEnd
+run_as (Ok tt) net trace latches values verdicts t =
     ran_to (run_cycles net (running latches values [] t) (cycles_of (input_count net) trace)) verdicts
-run_as (Failed cause) net trace latches values verdicts t =
-    run_end (record { outcome = Refused cause; tally = t }) latches values verdicts
+run_as (Err cause) net trace latches values verdicts t =
+    run_end (record { outcome = Err cause; tally = t }) latches values verdicts
 
 unfoldable pub run_of : List ℕ → List ℕ → List ℕ → List ℕ → List ℕ → Tally → RunEnd
 run_of net trace latches values verdicts t =

@@ -1,11 +1,9 @@
 -- Start: fills the L latch words and clears the tally. Assumes nothing.
-use Rattle.std.specs.Prelude.{Bool, cond, List, [], ◌∷◌, ◌++◌, ℕ, zero, suc, eqb, length, get_or, drop}
+use Rattle.std.specs.Prelude.{Result, Ok, Err, Bool, cond, List, [], ◌∷◌, ◌++◌, ℕ, zero, suc, eqb, length, get_or, drop}
+use Rattle.calls.specs.declared.refusal.Cause.{Cause}
 use Rattle.netlist.specs.Layout.{latch_count, reset_at}
 use Rattle.netlist.specs.Lanes.{lane, word_of}
 use Rattle.netlist.specs.Valid.{is_free, free_count}
-use Rattle.calls.specs.declared.refusal.Tested.{Tested}
-use Rattle.calls.specs.declared.refusal.Tested.TheVariants.{Passed, Failed}
-use Rattle.simulator.specs.declared.outcome.StartOutcome.TheVariants.{Ready, Refused}
 use Rattle.simulator.specs.declared.outcome.Started.{Started}
 use Rattle.calls.specs.declared.tally.Tally.{Tally}
 use Rattle.calls.specs.Tallies.{cleared}
@@ -29,10 +27,10 @@ pub record StartEnd : Type 0 where
 abbrev pub start_end : Started → List ℕ → StartEnd
 start_end r l = record { answer = r; latches = l }
 
-unfoldable pub start_as : Tested → List ℕ → List ℕ → Tally → StartEnd
-start_as Passed net latches t =
-    start_end (record { outcome = Ready; tally = cleared }) (start_words net (latch_count net) ++ drop (latch_count net) latches)
-start_as (Failed cause) net latches t = start_end (record { outcome = Refused cause; tally = t }) latches
+unfoldable pub start_as : Result Unit Cause → List ℕ → List ℕ → Tally → StartEnd
+start_as (Ok tt) net latches t =
+    start_end (record { outcome = (Ok tt); tally = cleared }) (start_words net (latch_count net) ++ drop (latch_count net) latches)
+start_as (Err cause) net latches t = start_end (record { outcome = Err cause; tally = t }) latches
 
 unfoldable pub start_of : List ℕ → List ℕ → Tally → StartEnd
 start_of net latches t = start_as (start_check net (length latches)) net latches t

@@ -1,11 +1,9 @@
 -- Step: one cycle. It fills the M + 1 value words, moves all latches together, answers the output words
 -- and brings the tally up to date. Assumes nothing.
-use Rattle.std.specs.Prelude.{cond, List, ◌++◌, map, ℕ, ◌+◌, eqb, length, take, drop}
+use Rattle.std.specs.Prelude.{Result, Ok, Err, cond, List, ◌++◌, map, ℕ, ◌+◌, eqb, length, take, drop}
+use Rattle.calls.specs.declared.refusal.Cause.{Cause}
 use Rattle.netlist.specs.Layout.{maximum, latch_count, output_count}
 use Rattle.netlist.specs.Meaning.{words, bit_of, values_of, next_of, output_of}
-use Rattle.calls.specs.declared.refusal.Tested.{Tested}
-use Rattle.calls.specs.declared.refusal.Tested.TheVariants.{Passed, Failed}
-use Rattle.simulator.specs.declared.outcome.StepOutcome.TheVariants.{Output, Refused}
 use Rattle.simulator.specs.declared.outcome.Stepped.{Stepped}
 use Rattle.calls.specs.declared.tally.Tally.{Tally}
 use Rattle.calls.specs.Tallies.{counted}
@@ -39,12 +37,12 @@ pub record StepEnd : Type 0 where
 abbrev pub step_end : Stepped → List ℕ → List ℕ → StepEnd
 step_end r l v = record { answer = r; latches = l; values = v }
 
-unfoldable pub step_as : Tested → List ℕ → List ℕ → List ℕ → List ℕ → Tally → StepEnd
-step_as Passed net cycle latches values t =
+unfoldable pub step_as : Result Unit Cause → List ℕ → List ℕ → List ℕ → List ℕ → Tally → StepEnd
+step_as (Ok tt) net cycle latches values t =
     let w = output_word net cycle latches in
     let c = word_checked net cycle latches in
-    step_end (record { outcome = Output w c; tally = counted t w c }) (latches_after net cycle latches) (values_after net cycle latches values)
-step_as (Failed cause) net cycle latches values t = step_end (record { outcome = Refused cause; tally = t }) latches values
+    step_end (record { outcome = Ok (w, c); tally = counted t w c }) (latches_after net cycle latches) (values_after net cycle latches values)
+step_as (Err cause) net cycle latches values t = step_end (record { outcome = Err cause; tally = t }) latches values
 
 unfoldable pub step_of : List ℕ → List ℕ → List ℕ → List ℕ → Tally → StepEnd
 step_of net cycle latches values t =

@@ -7,9 +7,8 @@ ghost use Rattle.netlist.specs.Meaning.{words, lit_of, bit_of, front, gates_of, 
 ghost use Rattle.netlist.specs.Valid.{is_netlist};
 ghost use Rattle.simulator.specs.Step.{output_word, word_checked, latches_after, values_after};
 
-use crate::layout::{HEADER, operands_at, output_at};
-use calls::{ALL_LANES, GATES, LATCHES, OUTPUTS, header};
-use netlist::Literal;
+use calls::ALL_LANES;
+use netlist::{HEADER, Header, Literal};
 
 // The word of a literal, where values has the words of the variables.
 fn word_of(l: Literal, values: &[u64]) -> u64
@@ -34,10 +33,8 @@ fn inputs(cycle: &[u8], values: &mut [u64])
     requires { 1 + length cycle.now ≤ length values.old }
     ensures { values.new ≡ paste values.old 1 (map (bit_of words) cycle.now) (length cycle.now) }
 {
-    let mut v: usize = 0;
-    while v < cycle.len() {
+    for v in 0..cycle.len() {
         values[1 + v] = spread(cycle[v]);
-        v += 1;
     }
 }
 
@@ -47,11 +44,7 @@ fn latches_in(latches: &[u64], count: usize, first: usize, values: &mut [u64])
     requires count_in_bounds_2 { first + count ≤ length values.old }
     ensures { values.new ≡ paste values.old first latches.now count }
 {
-    let mut k: usize = 0;
-    while k < count {
-        values[first + k] = latches[k];
-        k += 1;
-    }
+    values[first..first + count].copy_from_slice(&latches[..count]);
 }
 
 // Variable 0, the inputs and count latches into values.
@@ -74,13 +67,11 @@ fn gates(net: &[u16], at: usize, first: usize, count: usize, values: &mut [u64])
     requires count_in_bounds { first + count ≤ length values.old }
     ensures { values.new ≡ gates_of words net.now at count (take first values.old) ++ drop (first + count) values.old }
 {
-    let mut g: usize = 0;
-    while g < count {
+    for g in 0..count {
         let i = at + 2 * g;
         let a = word_of(Literal(net[i]), values);
         let b = word_of(Literal(net[i + 1]), values);
         values[first + g] = a & b;
-        g += 1;
     }
 }
 
@@ -92,10 +83,17 @@ fn evaluate(net: &[u16], cycle: &[u8], latches: &[u64], values: &mut [u64])
     requires net_in_bounds_2 { maximum net.now + 1 ≤ length values.old }
     ensures { values.new ≡ values_after net.now cycle.now latches.now values.old }
 {
-    let count = header(net, LATCHES);
+    let header = Header::of(net);
+    let count = header.latches as usize;
     let first = cycle.len() + count + 1;
     load(cycle, latches, count, values);
-    gates(net, operands_at(net), first, header(net, GATES), values);
+    gates(
+        net,
+        header.operands_at(),
+        first,
+        header.gates as usize,
+        values,
+    );
 }
 
 // Moves the netlist's latches together: each takes the word of its next literal.
@@ -106,11 +104,9 @@ fn latches_move(net: &[u16], count: usize, values: &[u64], latches: &mut [u64])
     requires net_in_bounds { maximum net.now + 1 ≤ length values.now }
     ensures { latches.new ≡ nexts_of words net.now count values.now ++ drop count latches.old }
 {
-    let mut j: usize = 0;
-    while j < count {
+    for j in 0..count {
         let i = HEADER + 2 * j;
         latches[j] = word_of(Literal(net[i]), values);
-        j += 1;
     }
 }
 
@@ -127,9 +123,10 @@ fn outputs(net: &[u16], values: &[u64]) -> Words
     requires net_in_bounds { maximum net.now + 1 ≤ length values.now }
     ensures { (result.accept ≡ output_of words net.now 0 values.now) × (result.checked ≡ cond (eqb (output_count net.now) 2) (output_of words net.now 1 values.now) 0) }
 {
-    let at = output_at(net);
+    let header = Header::of(net);
+    let at = header.output_at();
     let accept = word_of(Literal(net[at]), values);
-    if header(net, OUTPUTS) != 2 {
+    if header.outputs != 2 {
         return Words { accept, checked: 0 };
     }
     let checked = word_of(Literal(net[at + 1]), values);
@@ -145,6 +142,6 @@ pub(crate) fn advance(net: &[u16], cycle: &[u8], latches: &mut [u64], values: &m
     ensures { (result.accept ≡ output_word net.now cycle.now latches.old) × (result.checked ≡ word_checked net.now cycle.now latches.old) × (latches.new ≡ latches_after net.now cycle.now latches.old) × (values.new ≡ values_after net.now cycle.now latches.old values.old) }
 {
     evaluate(net, cycle, latches, values);
-    latches_move(net, header(net, LATCHES), values, latches);
+    latches_move(net, Header::of(net).latches as usize, values, latches);
     outputs(net, values)
 }

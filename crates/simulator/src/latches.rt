@@ -3,8 +3,8 @@ ghost use Rattle.std.specs.Prelude.{◌≡◌, cond, not, ◌++◌, ◌+◌, ◌
 ghost use Rattle.netlist.specs.Lanes.{lane, word_of};
 ghost use Rattle.simulator.specs.Start.{start_words};
 
-use crate::layout::HEADER;
 use calls::ALL_LANES;
+use netlist::HEADER;
 
 // The first word of the j-th uninitialised latch, j from 0: the inverse of (2^64 - 1) / (2^(2^j) + 1).
 // Past the sixth no lane has the bit.
@@ -40,13 +40,11 @@ pub(crate) fn starts(net: &[u16], count: usize, latches: &mut [u64])
     ensures { latches.new ≡ start_words net.now count ++ drop count latches.old }
 {
     let mut j: usize = 0;
-    let mut k: usize = 0;
-    while k < count {
+    for k in 0..count {
         let reset = net[HEADER + 2 * k + 1];
         latches[k] = start_word(reset, j);
         if reset > 1 {
             j += 1;
         }
-        k += 1;
     }
 }

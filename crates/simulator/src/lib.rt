@@ -13,7 +13,6 @@ ghost use Rattle.simulator.specs.Claims.{StartMeans, WordsOfStart, StepMeans, St
 
 mod cycle;
 mod latches;
-mod layout;
 mod outcome;
 mod running;
 mod tally;
@@ -22,8 +21,9 @@ use crate::cycle::advance;
 use crate::latches::starts;
 use crate::running::run_cycles;
 use crate::tally::tallied;
-use calls::{LATCHES, Tally, Tested, header, run_check, start_check, step_check};
-pub use outcome::{Ran, RunOutcome, StartOutcome, Started, StepOutcome, Stepped, Verdict};
+use calls::{Tally, run_check, start_check, step_check};
+use netlist::Header;
+pub use outcome::{Ran, Started, Stepped, Verdict};
 
 // Starts a run: fills the latch words and clears the tally.
 pub fn start(net: &[u16], latches: &mut [u64], tally: Tally) -> Started
@@ -33,14 +33,14 @@ pub fn start(net: &[u16], latches: &mut [u64], tally: Tally) -> Started
 {
     let tested = start_check(net, latches.len());
     match tested {
-        Tested::Failed(cause) => Started {
-            outcome: StartOutcome::Refused(cause),
+        Err(cause) => Started {
+            outcome: Err(cause),
             tally,
         },
-        Tested::Passed => {
-            starts(net, header(net, LATCHES), latches);
+        Ok(()) => {
+            starts(net, Header::of(net).latches as usize, latches);
             Started {
-                outcome: StartOutcome::Ready,
+                outcome: Ok(()),
                 tally: Tally {
                     cycles: 0,
                     rejected: 0,
@@ -65,14 +65,14 @@ pub fn step(
 {
     let tested = step_check(net, cycle, latches.len(), values.len(), tally);
     match tested {
-        Tested::Failed(cause) => Stepped {
-            outcome: StepOutcome::Refused(cause),
+        Err(cause) => Stepped {
+            outcome: Err(cause),
             tally,
         },
-        Tested::Passed => {
+        Ok(()) => {
             let words = advance(net, cycle, latches, values);
             Stepped {
-                outcome: StepOutcome::Output(words.accept, words.checked),
+                outcome: Ok((words.accept, words.checked)),
                 tally: tallied(tally, words.accept, words.checked),
             }
         }
@@ -102,10 +102,10 @@ pub fn run(
         tally,
     );
     match tested {
-        Tested::Failed(cause) => Ran {
-            outcome: RunOutcome::Refused(cause),
+        Err(cause) => Ran {
+            outcome: Err(cause),
             tally,
         },
-        Tested::Passed => run_cycles(net, trace, latches, values, verdicts, tally),
+        Ok(()) => run_cycles(net, trace, latches, values, verdicts, tally),
     }
 }

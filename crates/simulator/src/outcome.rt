@@ -2,27 +2,15 @@
 use calls::{Cause, Tally};
 
 #[derive(Clone, Copy)]
-pub enum StartOutcome {
-    Ready,
-    Refused(Cause),
-}
-
-#[derive(Clone, Copy)]
 pub struct Started {
-    pub outcome: StartOutcome,
+    pub outcome: Result<(), Cause>,
     pub tally: Tally,
 }
 
 #[derive(Clone, Copy)]
-pub enum StepOutcome {
-    // The output words; the second is 0 where there is one output.
-    Output(u64, u64),
-    Refused(Cause),
-}
-
-#[derive(Clone, Copy)]
 pub struct Stepped {
-    pub outcome: StepOutcome,
+    // The output words; the second is 0 where there is one output.
+    pub outcome: Result<(u64, u64), Cause>,
     pub tally: Tally,
 }
 
@@ -34,13 +22,7 @@ pub enum Verdict {
 }
 
 #[derive(Clone, Copy)]
-pub enum RunOutcome {
-    Done(Verdict),
-    Refused(Cause),
-}
-
-#[derive(Clone, Copy)]
 pub struct Ran {
-    pub outcome: RunOutcome,
+    pub outcome: Result<Verdict, Cause>,
     pub tally: Tally,
 }

@@ -1,33 +1,30 @@
 // The cycles of a run that is not refused, one after another, as the trace reader hands them out.
-ghost use Rattle.std.specs.Prelude.{◌≡◌, ◌≤◌, length, take};
-ghost use Rattle.calls.specs.declared.refusal.Tested.TheVariants.{Passed};
+ghost use Rattle.std.specs.Prelude.{◌≡◌, ◌≤◌, length, take, Ok};
 ghost use Rattle.calls.specs.Refusals.{run_check};
 ghost use Rattle.simulator.specs.Run.{verdict_byte, verdict_of, run_end, run_of};
 
 use crate::cycle::advance;
-use crate::outcome::{Ran, RunOutcome, Verdict};
+use crate::outcome::{Ran, Verdict};
 use crate::tally::tallied;
-use calls::{INPUTS, Tally, header, is_rejected};
-use trace::{next_cycle, next_place};
+use calls::{Tally, is_rejected};
+use netlist::Header;
+use trace::TraceReader;
 
 // The byte of a cycle with this first output word: 1 rejected, 0 accepted.
 fn verdict_byte(word: u64) -> u8
     ensures { result ≡ verdict_byte word }
 {
-    if is_rejected(word) { 1 } else { 0 }
+    u8::from(is_rejected(word))
 }
 
-// The verdict of a run of so many cycles: rejected where any of them was.
-fn verdict(verdicts: &[u8], cycles: usize) -> Verdict
-    requires { cycles ≤ length verdicts.now }
-    ensures { result ≡ verdict_of (take cycles verdicts.now) }
+// The verdict of a run whose cycles have these bytes: rejected where any of them was.
+fn verdict(verdicts: &[u8]) -> Verdict
+    ensures { result ≡ verdict_of verdicts.now }
 {
-    let mut i: usize = 0;
-    while i < cycles {
-        if verdicts[i] != 0 {
+    for &b in verdicts {
+        if b != 0 {
             return Verdict::Rejected;
         }
-        i += 1;
     }
     Verdict::Accepted
 }
@@ -41,25 +38,22 @@ pub(crate) fn run_cycles(
     verdicts: &mut [u8],
     tally: Tally,
 ) -> Ran
-    requires { run_check net.now trace.now (length latches.old) (length values.old) (length verdicts.old) tally ≡ Passed }
+    requires { run_check net.now trace.now (length latches.old) (length values.old) (length verdicts.old) tally ≡ Ok tt }
     ensures { run_end result latches.new values.new verdicts.new ≡ run_of net.now trace.now latches.old values.old verdicts.old tally }
 {
-    let n = header(net, INPUTS);
+    let n = Header::of(net).inputs as usize;
     let lines = trace.len() / (n + 1);
     let mut total = tally;
-    let mut at: usize = 0;
-    let mut k: usize = 0;
-    while k < lines {
-        let cycle = next_cycle(trace, at, n);
+    let mut reader = TraceReader::new(trace, n);
+    for k in 0..lines {
+        let cycle = reader.next_cycle();
         let words = advance(net, cycle, latches, values);
         verdicts[k] = verdict_byte(words.accept);
         total = tallied(total, words.accept, words.checked);
-        at = next_place(trace, at, n);
-        k += 1;
     }
-    let judged = verdict(verdicts, lines);
+    let judged = verdict(&verdicts[..lines]);
     Ran {
-        outcome: RunOutcome::Done(judged),
+        outcome: Ok(judged),
         tally: total,
     }
 }

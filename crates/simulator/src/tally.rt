@@ -9,8 +9,8 @@ pub(crate) fn tallied(tally: Tally, word: u64, second: u64) -> Tally
     requires { has_room tally 1 ≡ true }
     ensures { result ≡ counted tally word second }
 {
-    let rejected: u32 = if is_rejected(word) { 1 } else { 0 };
-    let checked: u32 = if is_checked(second) { 1 } else { 0 };
+    let rejected = u32::from(is_rejected(word));
+    let checked = u32::from(is_checked(second));
     Tally {
         cycles: tally.cycles + 1,
         rejected: tally.rejected + rejected,

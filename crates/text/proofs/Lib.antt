@@ -3,3 +3,4 @@ pub mod LineLaws
 pub mod NumberLaws
 pub mod ReadBack
 pub mod WriterLaws
+pub mod WritingLaws

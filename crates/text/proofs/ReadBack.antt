@@ -9,7 +9,7 @@ use borrow.Author.Tests.{le-leb, ne_eqb}
 use lib.Dec.{eqb}
 use lib.ListN.{length, get_or}
 use lib.Seq.{drop-append_seam}
-use Rattle.text.specs.declared.Number.TheVariants.{Read}
+use Rattle.std.specs.Prelude.{Some}
 use Rattle.text.specs.Numbers.{digits, is_digit, leading_digits, is_numeral, read_number, ReadsBack}
 use Rattle.text.proofs.NumberLaws.{digits-small, digits-length, digits-some, digits_lead, EachDigit, each-digits, leading_stop, value-digits}
 
@@ -32,7 +32,7 @@ numeral_digits n h =
     go (no l) = rw (ne_eqb (get_or (digits n) 0 0) 48 (digits_lead n (omega arith))) (or_right (eqb (length (digits n)) 1))
 
 -- a number of up to five digits, written where no digit follows
-pub reads-digits : (n : ℕ) (pre post : List ℕ) → n < 100000 → is_digit (get_or post 0 0) ≡ false → read_number (pre ++ (digits n ++ post)) (length pre) ≡ Read n (length pre + length (digits n))
+pub reads-digits : (n : ℕ) (pre post : List ℕ) → n < 100000 → is_digit (get_or post 0 0) ≡ false → read_number (pre ++ (digits n ++ post)) (length pre) ≡ Some (n, length pre + length (digits n))
 unfolding read_number
 reads-digits n pre post h stop =
     rw (drop-append_seam pre (digits n ++ post), leading_append (digits n) post (each-digits n) stop, numeral_digits n h, value-digits n)

@@ -1,7 +1,5 @@
 -- Numbers in decimal, written and read. Assumes nothing.
-use Rattle.std.specs.Prelude.{◌≡◌, Bool, true, false, cond, not, ◌&&◌, ◌||◌, List, [], ◌∷◌, ◌++◌, ℕ, zero, suc, ◌+◌, ◌-◌, ◌*◌, ◌/◌, ◌%◌, ◌≤◌, eqb, leb, ltb, length, drop, get_or}
-use Rattle.text.specs.declared.Number.{Number}
-use Rattle.text.specs.declared.Number.TheVariants.{Read, None}
+use Rattle.std.specs.Prelude.{◌≡◌, Option, Some, None, Bool, true, false, cond, not, ◌&&◌, ◌||◌, List, [], ◌∷◌, ◌++◌, ℕ, zero, suc, ◌+◌, ◌-◌, ◌*◌, ◌/◌, ◌%◌, ◌≤◌, eqb, leb, ltb, length, drop, get_or}
 
 -- n in base ten, where suc k digits are enough
 unfoldable pub digits_of : ℕ → ℕ → List ℕ
@@ -31,12 +29,12 @@ unfoldable pub is_numeral : List ℕ → Bool
 is_numeral ds = leb 1 (length ds) && (leb (length ds) 5 && (eqb (length ds) 1 || not (eqb (get_or ds 0 0) 48)))
 
 -- the number whose digits start at p, and the place after them; none where they are no numeral
-unfoldable pub read_number : List ℕ → ℕ → Number
+unfoldable pub read_number : List ℕ → ℕ → Option (ℕ × ℕ)
 read_number s p =
     let ds = leading_digits (drop p s) in
-    cond (is_numeral ds) (Read (value_from 0 ds) (p + length ds)) None
+    cond (is_numeral ds) (Some (value_from 0 ds, p + length ds)) None
 
 -- a number up to 65,535 that was written, with no digit after it, is read back
 pub record ReadsBack : Type 0 where
   pub reads : (n : ℕ) (pre post : List ℕ) → n ≤ 65535 → is_digit (get_or post 0 0) ≡ false
-      → read_number (pre ++ (digits n ++ post)) (length pre) ≡ Read n (length pre + length (digits n))
+      → read_number (pre ++ (digits n ++ post)) (length pre) ≡ Some (n, length pre + length (digits n))

@@ -1,16 +1,15 @@
 // Text into and out of lent buffers: lines, decimal numbers, the append-writer, and the pair in which
 // a refusal is reported. Knows nothing of netlists, graphs or pages. Exports that a number that was
 // written is read back.
-//
-// A writer takes the buffer and a place and returns the place after its text. It stores what falls
-// within the buffer and drops the rest, so writers need no room to be proved, and the length of a
-// text is what its writer returns from place 0 over an empty part, `&mut out[..0]`.
 #![tactic(auto)]
 
-ghost use Rattle.std.specs.Prelude.{◌≡◌, [], ◌∷◌, leb, eqb, get_or, cond, not, ◌&&◌, ◌||◌};
+ghost use Rattle.std.specs.Prelude.{◌≡◌, leb, eqb, get_or, cond, not, ◌&&◌, ◌||◌, Some, None};
 ghost use Rattle.text.specs.Lines.{line_end, line_at};
-ghost use Rattle.text.specs.Numbers.{digits, is_digit, read_number, ReadsBack};
-ghost use Rattle.text.specs.Writer.{Wrote};
+ghost use Rattle.text.specs.Numbers.{is_digit, read_number, ReadsBack};
+
+mod writer;
+
+pub use writer::Writer;
 
 // How a call reports that it was refused: the number of document 01's table and the line, 0 where the
 // cause has no line. Each crate has an enum of its causes, with its number and line for each case.
@@ -35,14 +34,12 @@ pub enum Line {
 fn line_end(s: &[u8], at: usize) -> usize
     ensures { result ≡ line_end s.now at }
 {
-    let mut i = at;
-    while i < s.len() {
-        if s[i] == b'\n' {
-            return i;
+    for k in at..s.len() {
+        if s[k] == b'\n' {
+            return k;
         }
-        i += 1;
     }
-    i
+    at.max(s.len())
 }
 
 // The line that starts at a place.
@@ -60,15 +57,6 @@ pub fn line_at(s: &[u8], at: usize) -> Line
     }
 }
 
-// What reading a number finds.
-#[derive(Clone, Copy)]
-pub enum Number {
-    // The number, and the place after its digits.
-    Read(usize, usize),
-    // No digit, more than five, or a leading zero.
-    None,
-}
-
 fn is_digit(b: u8) -> bool
     ensures { result ≡ is_digit b }
 {
@@ -82,80 +70,42 @@ fn is_digit(b: u8) -> bool
 pub fn byte_at(s: &[u8], at: usize) -> u8
     ensures { result ≡ get_or s.now at 0 }
 {
-    if at < s.len() { s[at] } else { 0 }
+    s.get(at).copied().unwrap_or(0)
 }
 
 // A numeral of `count` digits, at most five, that starts with the byte `first`; `next` is the place after it.
-fn numeral(first: u8, count: usize, value: usize, next: usize) -> Number
-    ensures { result ≡ cond (leb 1 count && (eqb count 1 || not (eqb first 48))) (Number.Read value next) Number.None }
+fn numeral(first: u8, count: usize, value: usize, next: usize) -> Option<(usize, usize)>
+    ensures { result ≡ cond (leb 1 count && (eqb count 1 || not (eqb first 48))) (Some (value, next)) None }
 {
     if count < 1 {
-        return Number::None;
+        return None;
     }
     if count == 1 {
-        return Number::Read(value, next);
+        return Some((value, next));
     }
     if first == b'0' {
-        return Number::None;
+        return None;
     }
-    Number::Read(value, next)
+    Some((value, next))
 }
 
-// The number whose one to five digits, without leading zeros, start at a place.
-pub fn read_number(s: &[u8], at: usize) -> Number
+// The number whose one to five digits, without leading zeros, start at a place, and the place after them.
+pub fn read_number(s: &[u8], at: usize) -> Option<(usize, usize)>
     ensures value { result ≡ read_number s.now at }
     ensures written { ReadsBack }
 {
     let mut value: usize = 0;
     let mut p = at;
+    // No `for` over the bytes: `byte_at` gives no digit past the text's end, which so is no case of its own.
     loop {
         let b = byte_at(s, p);
         if !is_digit(b) {
             return numeral(byte_at(s, at), p - at, value, p);
         }
         if 5 <= p - at {
-            return Number::None;
+            return None;
         }
         value = value * 10 + (b - b'0') as usize;
         p += 1;
-    }
-}
-
-// The place after every slice.
-const TOP: usize = 9223372036854775808;
-
-// Appends one byte.
-pub fn put_byte(out: &mut [u8], at: usize, b: u8) -> usize
-    ensures { Wrote out.old out.new at result (b ∷ []) }
-{
-    if at < out.len() {
-        out[at] = b;
-        return at + 1;
-    }
-    if at < TOP { at + 1 } else { at }
-}
-
-// Appends all bytes of a slice.
-pub fn put_bytes(out: &mut [u8], at: usize, s: &[u8]) -> usize
-    ensures { Wrote out.old out.new at result s.now }
-{
-    let mut p = at;
-    let mut i = 0;
-    while i < s.len() {
-        p = put_byte(out, p, s[i]);
-        i += 1;
-    }
-    p
-}
-
-// Appends a number in decimal.
-pub fn put_number(out: &mut [u8], at: usize, n: usize) -> usize
-    ensures { Wrote out.old out.new at result (digits n) }
-{
-    if n < 10 {
-        put_byte(out, at, 48 + (n % 10) as u8)
-    } else {
-        let next = put_number(out, at, n / 10);
-        put_byte(out, next, 48 + (n % 10) as u8)
     }
 }

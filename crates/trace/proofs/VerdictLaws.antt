@@ -1,6 +1,6 @@
 -- Verdict bytes, each by itself and as they are tested one by one. Assumes nothing.
-use mathlib.Core.Path.{◌≡◌, refl}
-use mathlib.Core.Bool.{true, false}
+use mathlib.Core.Path.{◌≡◌, refl, ap}
+use mathlib.Core.Bool.{Bool, true, false, ◌&&◌}
 use mathlib.Core.List.{List, [], ◌∷◌}
 use Prim.Native.Nat.{ℕ, zero, suc, ◌+◌, ◌<◌, ◌≤◌}
 use native.Mathlib.Numerals.{add-one}
@@ -9,6 +9,7 @@ use lib.Dec.{leb}
 use lib.ListN.{length, get_or, drop, drop_of_length-le}
 use lib.Seq.{drop-cons}
 use borrow.Author.Tests.{leb-true, le-leb, lt-leb}
+use Rattle.std.specs.List.{list_all}
 use Rattle.netlist.proofs.EachLaws.{both}
 use Rattle.trace.specs.Verdicts.{all_bits}
 
@@ -38,3 +39,9 @@ module _ (v : List ℕ) (k : ℕ) where
     pub bits-next : get_or v k 0 ≤ 1 → all_bits (drop k v) ≡ all_bits (drop (k + 1) v)
     unfolding all_bits
     bits-next h = rw (add-one k, drop-cons v k 0 l, le-leb (get_or v k 0) 1 h)
+
+-- a test of each byte
+pub bits_list : (v : List ℕ) → list_all (λ b. leb b 1) v ≡ all_bits v
+unfolding all_bits
+bits_list [] = refl
+bits_list (b ∷ v) = ap (λ (t : Bool). leb b 1 && t) (bits_list v)

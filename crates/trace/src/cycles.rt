@@ -7,37 +7,21 @@ ghost use Rattle.trace.specs.Claims.{TraceMeans};
 fn is_bit(b: u8) -> bool
     ensures { result ≡ is_bit b }
 {
-    if b == b'0' {
-        return true;
-    }
-    b == b'1'
+    b == b'0' || b == b'1'
 }
 
 // Whether there is one byte `0` or `1` for each of n inputs.
 pub fn is_cycle(n: usize, cycle: &[u8]) -> bool
     ensures { result ≡ is_cycle n cycle.now }
 {
-    if cycle.len() != n {
-        return false;
-    }
-    let mut k: usize = 0;
-    while k < cycle.len() {
-        if !is_bit(cycle[k]) {
-            return false;
-        }
-        k += 1;
-    }
-    true
+    cycle.len() == n && cycle.iter().all(|&b| is_bit(b))
 }
 
 // Whether the byte b may stand at place col of a line of n inputs.
 fn fits_line(n: usize, col: usize, b: u8) -> bool
     ensures { result ≡ fits_line n col b }
 {
-    if col == n {
-        return b == b'\n';
-    }
-    is_bit(b)
+    if col == n { b == b'\n' } else { is_bit(b) }
 }
 
 // The first wrong line of a trace for n inputs, from 1, or 0 where there is none.
@@ -47,9 +31,8 @@ pub fn fault(trace: &[u8], n: usize) -> usize
 {
     let mut line: usize = 1;
     let mut col: usize = 0;
-    let mut i: usize = 0;
-    while i < trace.len() {
-        if !fits_line(n, col, trace[i]) {
+    for &b in trace {
+        if !fits_line(n, col, b) {
             return line;
         }
         if col == n {
@@ -58,7 +41,6 @@ pub fn fault(trace: &[u8], n: usize) -> usize
         } else {
             col += 1;
         }
-        i += 1;
     }
     if col == 0 { 0 } else { line }
 }

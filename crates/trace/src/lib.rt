@@ -7,4 +7,4 @@ mod cycles;
 mod reader;
 
 pub use cycles::{fault, is_cycle};
-pub use reader::{next_cycle, next_place};
+pub use reader::TraceReader;

@@ -1,50 +1,37 @@
-// The trace reader: over the caller's bytes, it hands out one cycle after another. Each function takes it
-// apart, and the work is done over the slice and the place. Callers of next_cycle and next_place meet a
-// trace through it and hold no reader.
+// The trace reader: over the caller's bytes, it hands out one cycle after another.
 ghost use Rattle.std.specs.Prelude.{◌≡◌, ◌+◌, min, length, take, drop};
 
 use crate::cycles::{cycle_at, place_after};
 
-// The caller's trace, and the place of its next cycle.
+// The caller's trace, how many inputs its cycles are for, and the place of the next of them.
 #[derive(Drop)]
-pub(crate) struct TraceReader<'a> {
-    pub(crate) trace: &'a [u8],
-    pub(crate) at: usize,
+pub struct TraceReader<'a> {
+    pub trace: &'a [u8],
+    pub inputs: usize,
+    pub at: usize,
 }
 
-// The reader whose next cycle stands at a place.
-pub(crate) fn reader_at<'a>(trace: &'a [u8], at: usize) -> TraceReader<'a>
-    ensures { (result.trace ≡ trace.entry) × (result.at ≡ at) }
-{
-    TraceReader { trace, at }
-}
+impl<'a> TraceReader<'a> {
+    // The reader that has handed out no cycle.
+    pub fn new(trace: &'a [u8], inputs: usize) -> TraceReader<'a>
+        ensures { (result.trace ≡ trace.entry) × (result.inputs ≡ inputs) × (result.at ≡ 0) }
+    {
+        TraceReader {
+            trace,
+            inputs,
+            at: 0,
+        }
+    }
 
-// The next cycle, of n inputs: its bytes without the LF.
-pub(crate) fn cycle_of<'a>(r: TraceReader<'a>, n: usize) -> &'a [u8]
-    ensures { result.now ≡ take n (drop r.entry.at r.entry.trace.now) }
-{
-    cycle_at(r.trace, r.at, n)
-}
-
-// The reader past its next cycle, of n inputs, and that cycle's LF; at the end of the trace it stays there.
-pub(crate) fn moved_on<'a>(r: TraceReader<'a>, n: usize) -> TraceReader<'a>
-    ensures { (result.trace ≡ r.entry.trace) × (result.at ≡ min (r.entry.at + n + 1) (length r.entry.trace.now)) }
-{
-    let at = place_after(r.trace, r.at, n);
-    TraceReader { trace: r.trace, at }
-}
-
-// The cycle that a reader at a place hands out.
-pub fn next_cycle(trace: &[u8], at: usize, n: usize) -> &[u8]
-    ensures { result.now ≡ take n (drop at trace.now) }
-{
-    cycle_of(reader_at(trace, at), n)
-}
-
-// The place at which that reader then stands.
-pub fn next_place(trace: &[u8], at: usize, n: usize) -> usize
-    ensures { result ≡ min (at + n + 1) (length trace.now) }
-{
-    let r = moved_on(reader_at(trace, at), n);
-    r.at
+    // The next cycle: its bytes without the LF. The reader moves on past both; at the end of the trace it stays there.
+    pub fn next_cycle(&mut self) -> &'a [u8]
+        ensures cycle { result.now ≡ take self.old.inputs (drop self.old.at self.old.trace.now) }
+        ensures moved { (self.new.trace ≡ self.old.trace) × (self.new.inputs ≡ self.old.inputs) × (self.new.at ≡ min (self.old.at + self.old.inputs + 1) (length self.old.trace.now)) }
+    {
+        let trace = self.trace;
+        let at = self.at;
+        let n = self.inputs;
+        self.at = place_after(trace, at, n);
+        cycle_at(trace, at, n)
+    }
 }

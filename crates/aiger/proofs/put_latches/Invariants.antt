@@ -1,12 +1,12 @@
 -- `put_latches` meets its contract: after k turns the first k lines are written. Assumes nothing.
 use mathlib.Core.Bool.{false}
 use Prim.Native.Nat.{◌≤◌, ◌-◌}
-use Rattle.text.specs.Writer.{Wrote, joined}
+use Rattle.text.specs.Writer.{Writes, joined}
 use Rattle.aiger.specs.Format.{latch_line}
 use Rattle.aiger.proofs.put_latches.Given as goal
 
 abbrev pub invariant-loop-k : goal.invariant-loop-k
-invariant-loop-k l = (l.k ≤ l.count) × Wrote l.initial.text l.text l.at l.p (joined (latch_line l.net (λ _. false)) l.k)
+invariant-loop-k l = (l.k ≤ l.count) × Writes l.initial.text l.text (joined (latch_line l.net (λ _. false)) l.k)
 
 abbrev pub decreases-loop-k : goal.decreases-loop-k
 decreases-loop-k l = l.count - l.k

@@ -6,4 +6,4 @@ use Rattle.aiger.proofs.put_two.Goals as goal
 pub returns : goal.returns
 unfolding line
 returns c =
-    field _ 32 c.put_field-p.ensures c.put_field.ensures
+    field _ 32 c.put_field.ensures c.put_field-2.ensures

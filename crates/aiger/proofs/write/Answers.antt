@@ -1,7 +1,6 @@
 -- `write` meets its contract: the file is measured over no bytes, and written where there is room. Assumes nothing.
 use mathlib.Core.Path.{sym, ◌∙◌}
 use native.Mathlib.Omega.{arith}
-use lib.Seq.{length-take-le}
 use borrow.Author.Tests.{not-true, not-false}
 use borrow.Author.Rules.{rules}
 use Rattle.text.proofs.WriterLaws.{measured, too_long}
@@ -16,11 +15,8 @@ pub returns-then-not-is_netlist : goal.returns-then-not-is_netlist
 unfolding write_of
 returns-then-not-is_netlist c = record { text_after = sym (no_netlist _ _ _ (sym c.is_netlist.ensures.value ∙ not-true _ c.if-not-is_netlist.true-raw)); exact = write_means }
 
-pub slice_bounds-put_file-end-2 : goal.slice_bounds-put_file-end-2
-slice_bounds-put_file-end-2 c = sym (length-take-le _ c.args.text.now (omega arith))
-
-pub put_file-need-requires : goal.put_file-need-requires
-put_file-need-requires c =
+pub fill-need-requires : goal.fill-need-requires
+fill-need-requires c =
     let v = valid _ (sym c.is_netlist.ensures.value ∙ not-false _ c.if-not-is_netlist.false-raw) in
     search rules
 
@@ -30,11 +26,11 @@ returns-then-need-text c =
     let net = c.args.net.now in
     let text = c.args.text.now in
     let is = sym c.is_netlist.ensures.value ∙ not-false _ c.if-not-is_netlist.false-raw in
-    let m = too_long text (file_of net) (omega (arith, c.well_formed)) c.put_file-need.ensures c.if-need-text.true in
+    let m = too_long text (file_of net) (omega (arith, c.well_formed)) c.fill-need.ensures c.if-need-text.true in
     record { text_after = rw m.1 (sym (too_short (file_of net) net text is m.0)); exact = write_means }
 
-pub put_file-end-requires : goal.put_file-end-requires
-put_file-end-requires c =
+pub fill-requires : goal.fill-requires
+fill-requires c =
     let v = valid _ (sym c.is_netlist.ensures.value ∙ not-false _ c.if-not-is_netlist.false-raw) in
     search rules
 
@@ -44,5 +40,5 @@ returns c =
     let net = c.args.net.now in
     let text = c.args.text.now in
     let is = sym c.is_netlist.ensures.value ∙ not-false _ c.if-not-is_netlist.false-raw in
-    let m = measured text (file_of net) (omega (arith, c.well_formed)) c.put_file-need.ensures c.if-need-text.false c.put_file-end.ensures in
+    let m = measured text (file_of net) (omega (arith, c.well_formed)) c.fill-need.ensures c.if-need-text.false c.fill.ensures in
     record { text_after = rw (m.1, m.2) (sym (written (file_of net) net text is m.0)); exact = write_means }

@@ -1,5 +1,6 @@
 -- What the functions promise of an order that is under way, and of what is stored by it. Assumes nothing.
-use Rattle.std.specs.Prelude.{◌≡◌, Bool, true, false, cond, not, ◌&&◌, ◌||◌, List, [], ◌∷◌, ℕ, ◌+◌, ◌<◌, ◌≤◌, eqb, ltb, length, get_or, take}
+use Rattle.std.specs.Prelude.{Option, Some, None, ◌≡◌, Bool, true, false, cond, not, ◌&&◌, ◌||◌, List, [], ◌∷◌, ℕ, ◌+◌, ◌<◌, ◌≤◌, eqb, ltb, length, get_or, take}
+use Rattle.netlist.specs.declared.literals.Variable.{Variable}
 use Rattle.netlist.specs.Layout.{maximum, input_count, latch_count, output_count, gate_count, next_at, reset_at, output_at, operands_at, size_of}
 use Rattle.netlist.specs.Literals.{literal_of, variable_of, is_inverted}
 use Rattle.gate_order.specs.Loose.{first_gate, left_of, right_of}
@@ -32,6 +33,11 @@ pub record Stands (loose order news : List ℕ) : Type 0 where
 pub record Starts (first : ℕ) (news : List ℕ) : Type 0 where
   pub long : length news ≡ 4096
   pub at : (v : ℕ) → v < 4096 → get_or news v 0 ≡ cond (ltb v first) v 65535
+
+-- the gate that was chosen, or `end` where none was
+unfoldable pub or_end : ℕ → Option Variable → ℕ
+or_end end None = end
+or_end end (Some var) = var.0
 
 -- from `low` on, all below `r` are placed
 pub record Passed (news : List ℕ) (low end r : ℕ) : Type 0 where

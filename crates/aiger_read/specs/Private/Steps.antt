@@ -1,44 +1,21 @@
 -- What the private functions promise. Assumes nothing.
-use Rattle.std.specs.Prelude.{◌≡◌, true, false, List, ℕ, ◌+◌, ◌*◌, ◌≤◌, length, replicate}
+use Rattle.std.specs.Prelude.{Result, Ok, Err, ◌≡◌, true, false, List, ℕ, ◌+◌, ◌*◌, ◌≤◌, length, replicate}
 use Rattle.netlist.specs.Literals.{literal_of}
+use Rattle.aiger_lines.specs.declared.Fault.{Fault}
 use Rattle.aiger_lines.specs.declared.Head.{Head}
 use Rattle.aiger_lines.specs.declared.Cursor.{Cursor}
-use Rattle.aiger_lines.specs.declared.Passed.{Passed}
-use Rattle.aiger_lines.specs.declared.Passed.TheVariants.{Past, Failed}
 use Rattle.aiger_lines.specs.Lines.{Row, row, fault, output_at}
 use Rattle.aiger_lines.specs.Blocks.{Rows, rows, failed, and_then, rows_of, end_of}
-use Rattle.aiger_order.specs.declared.Placing.{Placing}
-use Rattle.aiger_order.specs.declared.Placing.TheVariants.{Placed, Waiting, ShortBuffer as NoRoom, NotLoose}
+use Rattle.aiger_order.specs.declared.Unplaced.{Unplaced}
+use Rattle.aiger_order.specs.declared.Unplaced.TheVariants.{Waiting, ShortBuffer as NoRoom, NotLoose}
+use Rattle.aiger_read.specs.declared.Cause.{Cause}
 use Rattle.aiger_read.specs.declared.Cause.TheVariants.{ShortBuffer, WaitingGates}
-use Rattle.aiger_read.specs.declared.ReadOutcome.{ReadOutcome}
-use Rattle.aiger_read.specs.declared.ReadOutcome.TheVariants.{Numbers, Refused}
-use Rattle.aiger_read.specs.declared.Kind.{Kind}
-use Rattle.aiger_read.specs.declared.Kind.TheVariants.{Input, Latch, Output}
-use Rattle.aiger_read.specs.declared.Block.{Block}
-use Rattle.aiger_read.specs.declared.GateRead.{GateRead}
-use Rattle.aiger_read.specs.declared.GateRead.TheVariants.{Next, Bad}
-use Rattle.aiger_read.specs.Lines.{input_at, latch_at, undefined}
+use Rattle.aiger_read.specs.Lines.{latch_at, undefined}
 use Rattle.aiger_read.specs.Files.{gate_rows, body_of}
-
--- the first variable of a kind, or 0
-abbrev pub first_of : Kind → ℕ
-first_of (Input first) = first.0
-first_of (Latch first last) = first.0
-first_of (Output last) = 0
-
--- line k of a kind
-unfoldable pub kind_at : List ℕ → Kind → ℕ → ℕ → ℕ → Row
-kind_at s (Input first) k = input_at s (literal_of (first.0 + k) false)
-kind_at s (Latch first last) k = latch_at s last.0 (literal_of (first.0 + k) false)
-kind_at s (Output last) k = output_at s last.0
 
 -- from the inputs on
 unfoldable pub inputs_of : List ℕ → Head → Rows
 inputs_of s h = body_of s h.variables h.inputs h.latches h.outputs h.gates h.next
-
--- the lines of a block
-unfoldable pub block_of : List ℕ → Block → Cursor → Rows
-block_of s b c = rows_of (kind_at s b.kind) b.count 0 b.line c.free c.at
 
 -- ---- gates
 
@@ -47,18 +24,18 @@ abbrev pub HasPlaces : ℕ → ℕ → List ℕ → Type 0
 HasPlaces first m ops = (m ≤ 4095) × (2 * m + 2 ≤ 2 * first + length ops)
 
 -- a gate's line, and the operands up to it
-unfoldable pub gate_in : ℕ → GateRead → List ℕ → Row
-gate_in free (Next q) ops = row ops free q
-gate_in free (Bad e) ops = fault e
+unfoldable pub gate_in : ℕ → Result ℕ Fault → List ℕ → Row
+gate_in free (Ok q) ops = row ops free q
+gate_in free (Err e) ops = fault e
 
 -- the lines of gates; `ops` has the operands of the gates before them
 unfoldable pub gate_block : List ℕ → Head → List ℕ → ℕ → ℕ → Rows
 gate_block s h ops free p = gate_rows s (h.inputs + h.latches + 1) h.variables h.gates (h.inputs + h.latches + h.outputs + 2) ops free p
 
 -- the operands of gates are those that were read, and stand from `place` on in the netlist; or the lines have a fault
-unfoldable pub Filled : Rows → List ℕ → ℕ → Passed → Type 0
-Filled (rows ops free q) after place r = (r ≡ Past (record { free = free; at = q; place = place + length ops })) × (after ≡ ops)
-Filled (failed e line) after place r = r ≡ Failed e line
+unfoldable pub Filled : Rows → List ℕ → ℕ → Result Cursor (Fault × ℕ) → Type 0
+Filled (rows ops free q) after place r = (r ≡ Ok (record { free = free; at = q; place = place + length ops })) × (after ≡ ops)
+Filled (failed e line) after place r = r ≡ Err (e, line)
 
 -- ---- the header, and the room for what comes after it
 
@@ -92,11 +69,10 @@ unfoldable pub latches_of : List ℕ → Head → ℕ → ℕ → Rows
 latches_of s h free p =
     and_then (rows_of (λ k. latch_at s (literal_of h.variables true) (literal_of (h.inputs + 1 + k) false)) h.latches 0 (h.inputs + 2) free p) (outputs_of s h)
 
--- ---- the answer
+-- ---- the cause
 
--- by the answer of placing; numbers that were read are loose
-unfoldable pub outcome_of : Placing → ReadOutcome
-outcome_of (Placed n) = Numbers n
-outcome_of Waiting = Refused WaitingGates
-outcome_of NoRoom = Refused ShortBuffer
-outcome_of NotLoose = Refused WaitingGates
+-- of numbers that were not placed; numbers that were read are loose
+unfoldable pub cause_of : Unplaced → Cause
+cause_of Waiting = WaitingGates
+cause_of NoRoom = ShortBuffer
+cause_of NotLoose = WaitingGates

@@ -1,5 +1,4 @@
 -- `bench::refusal` meets its contract. Assumes nothing.
-use borrow.Author.Rules.{rules}
 use Rattle.bench_turns.specs.Refusals.{refusal_of}
 use Rattle.bench.proofs.refusal.Goals as goal
 

@@ -1,6 +1,5 @@
 -- `build_monitor` meets its contract. Assumes nothing.
 use native.Mathlib.Omega.{arith}
-use borrow.Author.Rules.{rules}
 use Rattle.builder.proofs.EndLaws as ends
 use Rattle.builder.proofs.build_monitor.Goals as goal
 
@@ -45,8 +44,8 @@ returns-then-net-output_count c =
     λ graph q. let a = c.args in
     ends.short a.text.now a.g c.requires a.checked a.net.now (ends.counted a.text.now a.g c.requires a.checked c.gate_count-gates.ensures) graph q c.output_count.ensures.0 c.if-inputs-latches.false c.if-net-output_count.true
 
-pub put_numbers-made-requires : goal.put_numbers-made-requires
-put_numbers-made-requires c =
+pub put_numbers-requires : goal.put_numbers-requires
+put_numbers-requires c =
     let a = c.args in
     let w = ends.good a.text.now a.g c.requires in
     let k = ends.counted a.text.now a.g c.requires a.checked c.gate_count-gates.ensures in
@@ -55,4 +54,4 @@ put_numbers-made-requires c =
 pub returns : goal.returns
 returns c =
     λ graph q. let a = c.args in
-    ends.done a.text.now a.g c.requires a.checked a.net.now (ends.counted a.text.now a.g c.requires a.checked c.gate_count-gates.ensures) graph q c.output_count.ensures.0 c.if-inputs-latches.false c.if-net-output_count.false c.put_numbers-made.ensures.1 c.put_numbers-made.ensures.0
+    ends.done a.text.now a.g c.requires a.checked a.net.now (ends.counted a.text.now a.g c.requires a.checked c.gate_count-gates.ensures) graph q c.output_count.ensures.0 c.if-inputs-latches.false c.if-net-output_count.false c.put_numbers.ensures.1 c.put_numbers.ensures.0

@@ -1,6 +1,6 @@
 -- The edges of a checked graph as the code holds them, by places in the text, and their gates. Assumes
 -- nothing.
-use Rattle.std.specs.Prelude.{ℕ, ◌+◌, ◌≤◌, ◌<◌, ◌≡◌, Bool, cond, List, [], ◌∷◌, ◌++◌, length, get_or, take}
+use Rattle.std.specs.Prelude.{Ok, ℕ, ◌+◌, ◌≤◌, ◌<◌, ◌≡◌, Bool, cond, List, [], ◌∷◌, ◌++◌, length, get_or, take}
 use Rattle.formula.specs.Grammar.{tree_of}
 use Rattle.assertion.specs.Graph.{Bytes, Edge, Graph}
 use Rattle.graph.specs.Pieces.{Declared}
@@ -9,8 +9,9 @@ use Rattle.graph.specs.Held.{no_arc, held_of}
 use Rattle.graph.specs.Private.Steps.{listed, left_of, right_of}
 use Rattle.graph.specs.declared.Arc.{Arc}
 use Rattle.graph.specs.declared.CheckedGraph.{CheckedGraph}
-use Rattle.graph.specs.declared.Judged.TheVariants.{Fine}
 use Rattle.circuit.specs.Build.{Two, EdgePiece, edge_piece}
+use Rattle.builder.specs.declared.Both.{Both}
+use Rattle.builder.specs.declared.gates.Gates.{Gates}
 use Rattle.builder.specs.Private.Adding.{Added}
 use Rattle.builder.specs.Private.Machine.{Bounded}
 use Rattle.builder.specs.Private.Terms.{Gathers}
@@ -47,10 +48,13 @@ unfoldable pub edges_in : Bytes → CheckedGraph → List Edge
 edges_in text g = edges_from text (names_in text g) g.signals (take g.edges g.arcs)
 
 -- the formulas are no refused ones, and the from-vertex is one of the vertices
+pub record ArcFine (text : Bytes) (ns : List Declared) (a : Arc) : Type 0 where
+  pub left : judged_formula ns (left_of text a) ≡ Ok tt
+  pub right : judged_formula ns (right_of text a) ≡ Ok tt
+
 pub record ArcGood (text : Bytes) (ns : List Declared) (vertices : ℕ) (a : Arc) : Type 0 where
   pub from : a.from < vertices
-  pub left-fine : judged_formula ns (left_of text a) ≡ Fine
-  pub right-fine : judged_formula ns (right_of text a) ≡ Fine
+  pub fine : ArcFine text ns a
 
 pub record GraphGood (text : Bytes) (g : CheckedGraph) : Type 0 where
   pub each : (i : ℕ) → i < g.edges → ArcGood text (names_in text g) g.vertices (get_or g.arcs i no_arc)
@@ -77,13 +81,13 @@ edges_of s n hs ds (e ∷ es) =
     record { gates = p.gates ++ r.gates; happy = p.outs.happy ∷ r.happy; condemned = p.outs.condemned ∷ r.condemned }
 
 -- the gates of an edge are stored, and these are its literals
-pub record EdgeMade (f : ℕ) (before out : List ℕ) (n next h d : ℕ) (p : EdgePiece) : Type 0 where
-  pub gates : Added f before out n next p.gates
-  pub happy : h ≡ p.outs.happy
-  pub condemned : d ≡ p.outs.condemned
+pub record EdgeMade (s t : Gates) (b : Both) (p : EdgePiece) : Type 0 where
+  pub gates : Added s t p.gates
+  pub happy : b.happy.0 ≡ p.outs.happy
+  pub condemned : b.condemned.0 ≡ p.outs.condemned
 
-pub record EdgesMade (f : ℕ) (before out : List ℕ) (n next : ℕ) (hs ds : List ℕ) (p : Gathers) : Type 0 where
-  pub gates : Added f before out n next p.gates
+pub record EdgesMade (s t : Gates) (hs ds : List ℕ) (p : Gathers) : Type 0 where
+  pub gates : Added s t p.gates
   pub happy : hs ≡ p.happy
   pub condemned : ds ≡ p.condemned
 

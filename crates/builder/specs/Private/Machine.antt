@@ -1,26 +1,27 @@
 -- What the private functions promise that run the words of a formula, and that count gates. Assumes
 -- nothing.
-use Rattle.std.specs.Prelude.{◌≡◌, Bool, true, false, cond, List, [], ◌∷◌, ◌++◌, ℕ, zero, suc, ◌+◌, ◌-◌, ◌*◌, ◌≤◌, ◌/◌, ◌%◌, min, eqb, ltb, length, get_or, take, drop, replicate}
+use Rattle.std.specs.Prelude.{Option, Some, None, ◌≡◌, Bool, true, false, cond, List, [], ◌∷◌, ◌++◌, ℕ, zero, suc, ◌+◌, ◌-◌, ◌*◌, ◌≤◌, ◌/◌, ◌%◌, eqb, ltb, length, get_or, take, drop, replicate, sum_by, count_by}
+use Rattle.std.specs.List.{list_any, range_with_len}
 use Rattle.netlist.specs.Literals.{literal_of}
+use Rattle.netlist.specs.declared.literals.Literal.{Literal}
 use Rattle.assertion.specs.Graph.{Bytes}
 use Rattle.formula.specs.Classes.{pick}
 use Rattle.formula.specs.Reading.{formula_of}
 use Rattle.formula.specs.declared.Formula.{Formula}
-use Rattle.graph.specs.Pieces.{Declared}
+use Rattle.graph.specs.Pieces.{Declared, place_in, width_in}
 use Rattle.graph.specs.Private.Steps.{listed, name_found}
-use Rattle.graph.specs.Held.{no_arc}
 use Rattle.graph.specs.declared.Arc.{Arc}
 use Rattle.graph.specs.declared.CheckedGraph.{CheckedGraph}
 use Rattle.circuit.specs.Gates.{lit, inv, Gate, Piece, and_of, or_of, xor_of, same_of}
 use Rattle.circuit.specs.Build.{Bits}
 use Rattle.builder.specs.Private.Adding.{Added}
 use Rattle.builder.specs.Private.Terms.{accept_of}
-use Rattle.builder.specs.declared.Made.{Made}
+use Rattle.builder.specs.declared.gates.Gates.{Gates}
+use Rattle.builder.specs.declared.names.Names.{Names}
 
--- a piece was stored from the variable n on
-pub record Makes (f : ℕ) (before after : List ℕ) (n : ℕ) (r : Made) (p : Piece) : Type 0 where
-  pub gates : Added f before after n r.next.0 p.gates
-  pub out : r.lit.0 ≡ p.out
+-- the names that the code holds
+abbrev pub named : Names → List Declared
+named n = listed n.text.now n.symbols.now n.total
 
 -- ---- one word of a formula
 -- a literal without gates
@@ -37,7 +38,7 @@ abbrev pub bit_at : ℕ → ℕ → ℕ
 bit_at place i = lit (2 + place + i)
 
 unfoldable pub name_literal : List Declared → Bytes → ℕ → ℕ → ℕ
-name_literal ns s w i = bit_at (name_found ns s w).place i
+name_literal ns s w i = bit_at (place_in (name_found ns s w)) i
 
 -- `==` of the names whose first bits have the places p and q: for w bits from bit i on three gates each, of which the
 -- last tells that they differ
@@ -59,7 +60,7 @@ alike_made n p q w =
 unfoldable pub compared_by : List Declared → Bytes → ℕ → ℕ → Piece
 compared_by ns s w n =
     let l = name_found ns s ((w - 16777216) / 4096) in
-    alike_made n l.place (name_found ns s (w % 4096)).place l.width
+    alike_made n (place_in l) (place_in (name_found ns s (w % 4096))) (width_in l)
 
 -- `&`, `|`, `^`, `=`
 unfoldable pub operated : ℕ → ℕ → ℕ → ℕ → Piece
@@ -103,10 +104,10 @@ ran ns s (w ∷ ws) st n =
 abbrev pub program : List Declared → Bytes → List ℕ → ℕ → Ran
 program ns s ws n = ran ns s ws (0 ∷ 0 ∷ []) n
 
--- the gates of words were stored from the variable n on, and the literal is the topmost of the stack
-pub record Ended (f : ℕ) (before after : List ℕ) (n : ℕ) (r : Made) (p : Ran) : Type 0 where
-  pub gates : Added f before after n r.next.0 p.gates
-  pub top : r.lit.0 ≡ get_or p.stack 0 0
+-- the gates of words were stored, and the literal is the topmost of the stack
+pub record Ended (s t : Gates) (l : Literal) (p : Ran) : Type 0 where
+  pub gates : Added s t p.gates
+  pub top : l.0 ≡ get_or p.stack 0 0
 
 -- from a stack of h literals no word takes those two, and at the end there is one more
 abbrev pub Enough : ℕ → List ℕ → Type 0
@@ -119,11 +120,6 @@ stack_of array zero = []
 stack_of array (suc h) = get_or array h 0 ∷ stack_of array h
 
 -- ---- gates counted
--- the sum over the indices i, i + 1, .., k of them
-unfoldable pub summed : (ℕ → ℕ) → ℕ → ℕ → ℕ
-summed f i zero = 0
-summed f i (suc k) = f i + summed f (suc i) k
-
 -- the gates of a byte: 1 for `&` or `|`, 3 for `^` or `=`
 unfoldable pub byte_gates : ℕ → ℕ
 byte_gates b = pick (eqb b 38) 1 (pick (eqb b 124) 1 (pick (eqb b 94) 3 (pick (eqb b 61) 3 0)))
@@ -133,41 +129,35 @@ unfoldable pub word_gates : List Declared → Bytes → ℕ → ℕ
 word_gates ns s w =
     pick (ltb w 4096) 0
     (pick (ltb w 8192) (byte_gates (w - 4096))
-    (pick (ltb w 16777216) 0 (4 * (name_found ns s ((w - 16777216) / 4096)).width - 1)))
-
-unfoldable pub gates_at : List Declared → Bytes → List ℕ → ℕ → ℕ
-gates_at ns s words i = word_gates ns s (get_or words i 0)
+    (pick (ltb w 16777216) 0 (4 * (width_in (name_found ns s ((w - 16777216) / 4096))) - 1)))
 
 -- the gates of a field, and of an edge's two formulas; ns are the names
-unfoldable pub read_gates : List Declared → Bytes → Formula → ℕ
-read_gates ns s f = summed (gates_at ns s f.words) 0 f.count
+unfoldable pub read_gates : List Declared → Bytes → Option Formula → ℕ
+read_gates ns s (Some f) = sum_by (word_gates ns s) (take f.count f.words)
+read_gates ns s None = 0
 
 unfoldable pub field_gates : Bytes → List Declared → ℕ → ℕ → ℕ
 field_gates text ns at n = read_gates ns (take n (drop at text)) (formula_of (take n (drop at text)))
 
-unfoldable pub arc_gates : Bytes → List Declared → List Arc → ℕ → ℕ
-arc_gates text ns arcs i =
-    let a = get_or arcs i no_arc in
-    field_gates text ns a.left a.lefts + field_gates text ns a.right a.rights
+unfoldable pub arc_gates : Bytes → List Declared → Arc → ℕ
+arc_gates text ns a = field_gates text ns a.left a.lefts + field_gates text ns a.right a.rights
 
--- 1 where an edge goes to the vertex v, and where one of them does
-unfoldable pub goes_to : List Arc → ℕ → ℕ → ℕ
-goes_to arcs v i = cond (eqb (get_or arcs i no_arc).to v) 1 0
-
-unfoldable pub is_reached : List Arc → ℕ → ℕ → ℕ
-is_reached arcs edges v = min 1 (summed (goes_to arcs v) 0 edges)
-
--- 1 where an edge is terminal
-unfoldable pub terminal_at : List Arc → ℕ → ℕ
-terminal_at arcs i = cond (get_or arcs i no_arc).terminal 1 0
+-- an edge goes to the vertex v
+abbrev pub is_reached : List Arc → ℕ → Bool
+is_reached arcs v = list_any (λ a. eqb a.to v) arcs
 
 -- how many of the vertices from the first on have an incoming edge
-abbrev pub reached_from : CheckedGraph → ℕ → ℕ
-reached_from g first = summed (is_reached g.arcs g.edges) first (g.vertices - first)
+abbrev pub reached_from : List Arc → ℕ → ℕ → ℕ
+reached_from arcs first vertices = count_by (is_reached arcs) (range_with_len first (vertices - first))
+
+-- how many edges are terminal
+abbrev pub terminals_of : List Arc → ℕ
+terminals_of arcs = count_by (λ a. a.terminal) arcs
 
 -- the count of gates by the arrays, with checked or without
 unfoldable pub gates_by : Bool → Bytes → CheckedGraph → ℕ
 gates_by checked text g =
-    let t = summed (terminal_at g.arcs) 0 g.edges in
-    7 * g.edges + (g.edges - reached_from g 1) + (g.edges - reached_from g 0) + (t - 1)
-    + summed (arc_gates text (listed text g.names g.named) g.arcs) 0 g.edges + cond checked (2 * t - 1) 0
+    let arcs = take g.edges g.arcs in
+    let t = terminals_of arcs in
+    7 * g.edges + (g.edges - reached_from arcs 1 g.vertices) + (g.edges - reached_from arcs 0 g.vertices) + (t - 1)
+    + sum_by (arc_gates text (listed text g.names g.named)) arcs + cond checked (2 * t - 1) 0

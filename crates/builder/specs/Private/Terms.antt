@@ -1,7 +1,8 @@
 -- The pieces of the monitor over the arrays that the code holds. Assumes nothing.
-use Rattle.std.specs.Prelude.{ℕ, zero, suc, ◌+◌, Bool, true, false, cond, List, [], ◌∷◌, ◌++◌, length, eqb}
+use Rattle.std.specs.Prelude.{Option, Some, None, ℕ, zero, suc, ◌+◌, Bool, true, false, cond, List, [], ◌∷◌, ◌++◌, length, eqb}
 use Rattle.netlist.specs.Literals.{literal_of}
-use Rattle.circuit.specs.Gates.{lit, inv, Gate, gate, Piece}
+use Rattle.netlist.specs.declared.literals.Literal.{Literal}
+use Rattle.circuit.specs.Gates.{lit, inv, Gate, gate, Piece, or_of}
 use Rattle.circuit.specs.Build.{Bits, init, or_from, or_all}
 
 -- the masks of k latches; l is the variable of the first
@@ -20,28 +21,27 @@ terms_of v [] ls = []
 terms_of v (k ∷ ks) [] = []
 terms_of v (k ∷ ks) (l ∷ ls) = cond (eqb k v) (l ∷ terms_of v ks ls) (terms_of v ks ls)
 
--- an OR chain that goes on: `some` tells whether there was a term, and then `so` is what they made
-unfoldable pub or_on : Bool → ℕ → ℕ → List ℕ → Piece
-or_on true n so ts = or_from n so ts
-or_on false n so ts = or_all n ts
+-- an OR chain that goes on behind the terms that make a literal, where there were any
+abbrev pub or_on : Option Literal → ℕ → List ℕ → Piece
+or_on (Some so) n ts = or_from n so.0 ts
+or_on None n ts = or_all n ts
 
--- one key and literal
-pub record Step : Type 0 where
-  pub gates : List Gate
-  pub some : Bool
-  pub lit : ℕ
+-- one term more
+abbrev pub or_term : Option Literal → ℕ → ℕ → Piece
+or_term (Some so) n t = or_of n so.0 t
+or_term None n t = record { gates = []; out = t }
 
-unfoldable pub step_or : Bool → Bool → ℕ → ℕ → ℕ → Step
-step_or false some n so t = record { gates = []; some = some; lit = so }
-step_or true false n so t = record { gates = []; some = true; lit = t }
-step_or true true n so t = record { gates = gate (inv so) (inv t) ∷ []; some = true; lit = literal_of n true }
+-- an OR chain in which init stands first, or does not
+abbrev pub or_begun : Bool → ℕ → List ℕ → Piece
+or_begun true n ts = or_from n (lit init) ts
+or_begun false n ts = or_all n ts
 
 -- the gates of a vertex: the keys are the vertices to which the edges go
 unfoldable pub vertex_happy : ℕ → List ℕ → List ℕ → ℕ → Piece
-vertex_happy n tos hs v = or_on (eqb v 0) n (lit init) (terms_of v tos hs)
+vertex_happy n tos hs v = or_begun (eqb v 0) n (terms_of v tos hs)
 
 unfoldable pub vertex_condemned : ℕ → List ℕ → List ℕ → ℕ → Piece
-vertex_condemned n tos ds v = or_on false n (lit init) (terms_of v tos ds)
+vertex_condemned n tos ds v = or_all n (terms_of v tos ds)
 
 pub record Gathered : Type 0 where
   pub gates : List Gate
@@ -69,11 +69,11 @@ vertices_of n tos hs ds v (suc k) =
 
 -- accept is the inverse of the OR chain over the terminal edges, whose key is 1
 unfoldable pub accept_of : ℕ → List ℕ → List ℕ → Piece
-accept_of n marks cs = let p = or_on false n (lit init) (terms_of 1 marks cs) in record { gates = p.gates; out = inv p.out }
+accept_of n marks cs = let p = or_all n (terms_of 1 marks cs) in record { gates = p.gates; out = inv p.out }
 
 -- alive of an edge, where its key is 1: one gate and its inverse; else none, and 0
 unfoldable pub alive_of : Bool → ℕ → ℕ → ℕ → Piece
-alive_of true n h d = record { gates = gate (inv d) (inv h) ∷ []; out = literal_of n true }
+alive_of true n h d = or_of n d h
 alive_of false n h d = record { gates = []; out = literal_of 0 false }
 
 -- alive of edges, one after another; hs and ds are their literals
@@ -90,21 +90,21 @@ alives_of n (k ∷ ks) (h ∷ hs) (d ∷ ds) =
 unfoldable pub checked_of : ℕ → List ℕ → List ℕ → List ℕ → Piece
 checked_of n marks hs ds =
     let a = alives_of n marks hs ds in
-    let j = or_on false (n + length a.gates) (lit init) (terms_of 1 marks a.outs) in
+    let j = or_all (n + length a.gates) (terms_of 1 marks a.outs) in
     record { gates = a.gates ++ j.gates; out = j.out }
 
--- accept, and checked behind it where it is asked for; else its literal is 0
+-- accept, and checked behind it where it is asked for
 pub record Ends : Type 0 where
   pub gates : List Gate
   pub accept : ℕ
-  pub second : ℕ
+  pub second : Option ℕ
 
 unfoldable pub ends_of : Bool → ℕ → List ℕ → List ℕ → List ℕ → Ends
 ends_of true n marks hs ds =
     let a = accept_of n marks ds in
     let c = checked_of (n + length a.gates) marks hs ds in
-    record { gates = a.gates ++ c.gates; accept = a.out; second = c.out }
-ends_of false n marks hs ds = let a = accept_of n marks ds in record { gates = a.gates; accept = a.out; second = literal_of 0 false }
+    record { gates = a.gates ++ c.gates; accept = a.out; second = Some c.out }
+ends_of false n marks hs ds = let a = accept_of n marks ds in record { gates = a.gates; accept = a.out; second = None }
 
 abbrev pub happy_gates : ℕ → ℕ → ℕ → ℕ → List Gate
 happy_gates m a c h = gate a h ∷ gate (lit m) c ∷ gate (lit m) (inv c) ∷ []

@@ -1,22 +1,19 @@
 -- What the private functions of the reader promise. Assumes nothing.
-use Rattle.std.specs.Prelude.{ℕ, ◌+◌, ◌-◌, ◌≤◌, ◌/◌, ◌%◌, ◌≡◌, Bool, true, false, not, cond, ◌&&◌, List, [], ◌∷◌, ◌++◌, map, ltb, leb, eqb, length, take, drop, set}
+use Rattle.std.specs.Prelude.{Option, Some, None, is_some, Result, Ok, Err, ℕ, ◌+◌, ◌-◌, ◌≤◌, ◌/◌, ◌%◌, ◌≡◌, Bool, true, false, not, cond, ◌&&◌, List, [], ◌∷◌, ◌++◌, map, ltb, leb, eqb, length, take, drop, set}
 use Rattle.formula.specs.Classes.{pick}
 use Rattle.assertion.specs.Lists.{any}
 use Rattle.assertion.specs.Graph.{Bytes, Graph}
 use Rattle.assertion.specs.declared.Mode.{Mode}
 use Rattle.assertion.specs.declared.Mode.TheVariants.{Unsaid, Terminal, Strong}
-use Rattle.graph.specs.Pieces.{end_at, piece_at, Declared, look_up_name}
+use Rattle.graph.specs.Pieces.{end_at, piece_at, Declared, look_up_name, width_in}
 use Rattle.graph.specs.Records.{Record, shapeless, mode, signal, constant, vertex, edge, marked, edged, record_of}
 use Rattle.graph.specs.Reading.{Step, fault, went, mode_lines, add_mode, names_of, judged_formula, lower, judge_edge, add_edge, add}
 use Rattle.graph.specs.Meaning.{IsWidth, EachWidth}
 use Rattle.graph.specs.Held.{declared_in, line_start, line_of, field_start, field_at, field_length, name_places, symbol_word, symbols_of, held_as}
 use Rattle.graph.specs.declared.Fault.{Fault}
-use Rattle.graph.specs.declared.Judged.{Judged}
-use Rattle.graph.specs.declared.Judged.TheVariants.{Fine, Faulty}
 use Rattle.graph.specs.declared.FoundName.{FoundName}
 use Rattle.graph.specs.declared.Arc.{Arc}
 use Rattle.graph.specs.declared.CheckedGraph.{CheckedGraph}
-use Rattle.graph.specs.declared.Added.{Added}
 use Rattle.graph.specs.declared.Shape.{Shape}
 use Rattle.graph.specs.declared.Shape.TheVariants as shape
 
@@ -24,10 +21,6 @@ use Rattle.graph.specs.declared.Shape.TheVariants as shape
 -- the vertices whose names start at some places of a text: each is the last field of its line
 abbrev pub points : Bytes → List ℕ → List Bytes
 points text starts = map (piece_at 10 text) starts
-
--- the first count of them
-abbrev pub pointed : Bytes → List ℕ → ℕ → List Bytes
-pointed text starts count = points text (take count starts)
 
 -- signals and constants, whose names stand in a text
 abbrev pub held : Bytes → List ℕ → List Declared
@@ -43,7 +36,7 @@ EachNarrow [] = Unit {0}
 EachNarrow (d ∷ ds) = (d.width ≤ 16) × EachNarrow ds
 
 -- the name that a word below 4096 gives: 16 times its first place, and its length
-abbrev pub name_found : List Declared → Bytes → ℕ → FoundName
+abbrev pub name_found : List Declared → Bytes → ℕ → Option FoundName
 name_found ns s w = look_up_name (take (w % 16) (drop (w / 16) s)) ns
 
 -- a word below 4096 is a name, then come bytes, from 8192 on one bit of a name, and from 16,777,216 on two names;
@@ -51,17 +44,17 @@ name_found ns s w = look_up_name (take (w % 16) (drop (w / 16) s)) ns
 unfoldable pub word_known : List Declared → Bytes → ℕ → Bool
 word_known ns s w =
     pick (leb 4096 w && ltb w 8192) true
-    (pick (leb 16777216 w) (pick (name_found ns s ((w - 16777216) / 4096)).known (name_found ns s (w % 4096)).known false)
-    (name_found ns s (w % 4096)).known)
+    (pick (leb 16777216 w) (pick (is_some (name_found ns s ((w - 16777216) / 4096))) (is_some (name_found ns s (w % 4096))) false)
+    (is_some (name_found ns s (w % 4096))))
 
 -- a word's names are known, and fit: a name by itself has one bit, a bit is below its name's width, and two names have
 -- equal widths; an unknown name has width 0
 unfoldable pub word_fits : List Declared → Bytes → ℕ → Bool
 word_fits ns s w =
     pick (leb 4096 w && ltb w 8192) true
-    (pick (ltb w 4096) (eqb (name_found ns s (w % 4096)).width 1)
-    (pick (ltb w 16777216) (ltb (w / 8192 - 1) (name_found ns s (w % 4096)).width)
-    (pick ((name_found ns s ((w - 16777216) / 4096)).known && (name_found ns s (w % 4096)).known) (eqb (name_found ns s ((w - 16777216) / 4096)).width (name_found ns s (w % 4096)).width) false)))
+    (pick (ltb w 4096) (eqb (width_in (name_found ns s (w % 4096))) 1)
+    (pick (ltb w 16777216) (ltb (w / 8192 - 1) (width_in (name_found ns s (w % 4096))))
+    (pick (is_some (name_found ns s ((w - 16777216) / 4096)) && is_some (name_found ns s (w % 4096))) (eqb (width_in (name_found ns s ((w - 16777216) / 4096))) (width_in (name_found ns s (w % 4096)))) false)))
 
 -- every word passes a test
 unfoldable pub all_words : (ℕ → Bool) → List ℕ → Bool
@@ -70,13 +63,13 @@ all_words test (w ∷ ws) = pick (test w) (all_words test ws) false
 
 -- ---- shapes
 -- the record of a line by the places of its fields
-unfoldable pub viewed : Bytes → Shape → Record
-viewed line shape.Wrong = shapeless
-viewed line (shape.Moded m) = mode m
-viewed line (shape.Signal p n w) = signal (take n (drop p line)) w
-viewed line (shape.Constant p n w) = constant (take n (drop p line)) w
-viewed line (shape.Vertex p) = vertex (drop p line)
-viewed line (shape.Edge f t m a c) =
+unfoldable pub viewed : Bytes → Option Shape → Record
+viewed line None = shapeless
+viewed line (Some (shape.Moded m)) = mode m
+viewed line (Some (shape.Signal p n w)) = signal (take n (drop p line)) w
+viewed line (Some (shape.Constant p n w)) = constant (take n (drop p line)) w
+viewed line (Some (shape.Vertex p)) = vertex (drop p line)
+viewed line (Some (shape.Edge f t m a c)) =
     edge (piece_at 9 line f) (piece_at 9 line t) m (piece_at 9 line a) (piece_at 9 line c)
 
 -- a place is the start of field k, in the line
@@ -88,16 +81,16 @@ abbrev pub NameOf : Bytes → ℕ → ℕ → Type 0
 NameOf line p n = FieldOf line 1 p × (n ≡ field_length line 1)
 
 -- a name is field 1, and the formulas are fields 4 and 5
-abbrev pub Placed : Bytes → Shape → Type 0
-Placed line shape.Wrong = Unit {0}
-Placed line (shape.Moded m) = Unit {0}
-Placed line (shape.Signal p n w) = NameOf line p n × IsWidth w × (n ≤ 15)
-Placed line (shape.Constant p n w) = NameOf line p n × IsWidth w × (n ≤ 15)
-Placed line (shape.Vertex p) = FieldOf line 1 p
-Placed line (shape.Edge f t m a c) = FieldOf line 4 a × FieldOf line 5 c
+abbrev pub Placed : Bytes → Option Shape → Type 0
+Placed line None = Unit {0}
+Placed line (Some (shape.Moded m)) = Unit {0}
+Placed line (Some (shape.Signal p n w)) = NameOf line p n × IsWidth w × (n ≤ 15)
+Placed line (Some (shape.Constant p n w)) = NameOf line p n × IsWidth w × (n ≤ 15)
+Placed line (Some (shape.Vertex p)) = FieldOf line 1 p
+Placed line (Some (shape.Edge f t m a c)) = FieldOf line 4 a × FieldOf line 5 c
 
 -- a shape is that of a record, with its places
-abbrev pub Shaped : Bytes → Record → Shape → Type 0
+abbrev pub Shaped : Bytes → Record → Option Shape → Type 0
 Shaped line r shape = (viewed line shape ≡ r) × Placed line shape
 
 -- the record of six fields whose others start at these places, with its kind, and without
@@ -141,7 +134,7 @@ left_of text e = take e.lefts (drop e.left text)
 abbrev pub right_of : Bytes → Arc → Bytes
 right_of text e = take e.rights (drop e.right text)
 
-abbrev pub judged_arc : Bytes → List Declared → Arc → Judged
+abbrev pub judged_arc : Bytes → List Declared → Arc → Result Unit Fault
 judged_arc text names e = lower (judged_formula names (left_of text e)) (judged_formula names (right_of text e))
 
 -- an edge by the places of its formulas in its line, which starts at `at`
@@ -171,43 +164,40 @@ pub record EdgeAt (text line : Bytes) (n at a c : ℕ) : Type 0 where
   pub antecedent : FieldOf line 4 a
   pub consequent : FieldOf line 5 c
 
--- what a record's step answers: a fault with the arrays as they were, or the arrays of the graph with it
-abbrev pub faulty_of : CheckedGraph → Fault → Added
-faulty_of g f = record { judged = Faulty f; graph = g }
-
-unfoldable pub added_of : Bytes → CheckedGraph → Step → Added
-added_of text g (fault f) = faulty_of g f
-added_of text g (went graph) = record { judged = Fine; graph = written_of text graph }
+-- what a record's step answers: its fault, or the arrays of the graph with it
+unfoldable pub added_of : Bytes → Step → Result CheckedGraph Fault
+added_of text (fault f) = Err f
+added_of text (went graph) = Ok (written_of text graph)
 
 -- what a step promises of its answer r, whichever graph the arrays g hold: of a mode
-abbrev pub AddsMode : CheckedGraph → Mode → Added → Type 0
-AddsMode g m r = (text : Bytes) (graph : Graph) → Holds text g graph → r ≡ added_of text g (add_mode graph m)
+abbrev pub AddsMode : CheckedGraph → Mode → Result CheckedGraph Fault → Type 0
+AddsMode g m r = (text : Bytes) (graph : Graph) → Holds text g graph → r ≡ added_of text (add_mode graph m)
 
 -- of a signal or a constant whose name of n bytes is at p
-abbrev pub AddsSymbol : Bytes → CheckedGraph → ℕ → ℕ → ℕ → (Graph → Bytes → ℕ → Step) → Added → Type 0
+abbrev pub AddsSymbol : Bytes → CheckedGraph → ℕ → ℕ → ℕ → (Graph → Bytes → ℕ → Step) → Result CheckedGraph Fault → Type 0
 AddsSymbol text g p n w step r =
     (graph : Graph) → Holds text g graph → p ≡ field_at text (records_of graph) 1 → n ≡ field_length (line_of text (records_of graph)) 1
-    → r ≡ added_of text g (step graph (take n (drop p text)) w)
+    → r ≡ added_of text (step graph (take n (drop p text)) w)
 
 -- of a vertex at p
-abbrev pub AddsName : Bytes → CheckedGraph → ℕ → (Graph → Bytes → Step) → Added → Type 0
+abbrev pub AddsName : Bytes → CheckedGraph → ℕ → (Graph → Bytes → Step) → Result CheckedGraph Fault → Type 0
 AddsName text g p step r =
-    (graph : Graph) → Holds text g graph → p ≡ field_at text (records_of graph) 1 → r ≡ added_of text g (step graph (piece_at 10 text p))
+    (graph : Graph) → Holds text g graph → p ≡ field_at text (records_of graph) 1 → r ≡ added_of text (step graph (piece_at 10 text p))
 
 -- of an edge whose vertices are known
-abbrev pub AddsArc : Bytes → CheckedGraph → Arc → Added → Type 0
+abbrev pub AddsArc : Bytes → CheckedGraph → Arc → Result CheckedGraph Fault → Type 0
 AddsArc text g e r =
-    (graph : Graph) → Holds text g graph → ArcAt text (records_of graph) e → r ≡ added_of text g (judge_edge graph e.from e.to e.terminal (left_of text e) (right_of text e))
+    (graph : Graph) → Holds text g graph → ArcAt text (records_of graph) e → r ≡ added_of text (judge_edge graph e.from e.to e.terminal (left_of text e) (right_of text e))
 
 -- of an edge by the places of its fields in its line
-abbrev pub AddsEdge : Bytes → CheckedGraph → Bytes → ℕ → ℕ → ℕ → Bool → ℕ → ℕ → Added → Type 0
+abbrev pub AddsEdge : Bytes → CheckedGraph → Bytes → ℕ → ℕ → ℕ → Bool → ℕ → ℕ → Result CheckedGraph Fault → Type 0
 AddsEdge text g line at f t m a c r =
-    (graph : Graph) → Holds text g graph → EdgeAt text line (records_of graph) at a c → r ≡ added_of text g (add_edge graph (piece_at 9 line f) (piece_at 9 line t) m (piece_at 9 line a) (piece_at 9 line c))
+    (graph : Graph) → Holds text g graph → EdgeAt text line (records_of graph) at a c → r ≡ added_of text (add_edge graph (piece_at 9 line f) (piece_at 9 line t) m (piece_at 9 line a) (piece_at 9 line c))
 
 -- of the line that starts at `at`
-abbrev pub AddsLine : Bytes → CheckedGraph → ℕ → Added → Type 0
+abbrev pub AddsLine : Bytes → CheckedGraph → ℕ → Result CheckedGraph Fault → Type 0
 AddsLine text g at r =
-    (graph : Graph) → Holds text g graph → at ≡ line_start text (records_of graph) → r ≡ added_of text g (add graph (record_of (line_of text (records_of graph))))
+    (graph : Graph) → Holds text g graph → at ≡ line_start text (records_of graph) → r ≡ added_of text (add graph (record_of (line_of text (records_of graph))))
 
 -- ---- the arrays with one more record
 abbrev pub with_mode : CheckedGraph → Mode → CheckedGraph

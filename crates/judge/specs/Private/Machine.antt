@@ -1,20 +1,19 @@
 -- What the private function does: the judgement of a run, by what start and run answer. Assumes nothing.
-use Rattle.std.specs.Prelude.{List, ℕ, replicate}
-use Rattle.simulator.specs.declared.outcome.RunOutcome.{RunOutcome}
-use Rattle.simulator.specs.declared.outcome.RunOutcome.TheVariants as run
+use Rattle.std.specs.Prelude.{Result, Ok, Err, List, ℕ, replicate}
+use Rattle.calls.specs.declared.refusal.Cause as calls
 use Rattle.calls.specs.declared.tally.Tally.{Tally}
+use Rattle.simulator.specs.declared.outcome.Verdict.{Verdict}
 use Rattle.calls.specs.Tallies.{cleared}
 use Rattle.simulator.specs.Start.{start_of}
 use Rattle.simulator.specs.Run.{RunEnd, run_of}
+use Rattle.judge.specs.declared.Cause.{Cause}
 use Rattle.judge.specs.declared.Cause.TheVariants.{Trace}
-use Rattle.judge.specs.declared.Judged.{Judged}
-use Rattle.judge.specs.declared.Judged.TheVariants.{Done, Refused}
 use Rattle.judge.specs.Judge.{JudgeEnd, judge_end}
 
 -- the judgement of an outcome, with the tally that came with it
-unfoldable pub outcome_judged : RunOutcome → Tally → Judged
-outcome_judged (run.Done verdict) t = Done t verdict
-outcome_judged (run.Refused cause) t = Refused (Trace cause)
+unfoldable pub outcome_judged : Result Verdict calls.Cause → Tally → Result (Tally × Verdict) Cause
+outcome_judged (Ok verdict) t = Ok (t, verdict)
+outcome_judged (Err cause) t = Err (Trace cause)
 
 -- of a run's end
 abbrev pub judged_run : RunEnd → JudgeEnd

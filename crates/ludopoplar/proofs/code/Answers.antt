@@ -1,6 +1,5 @@
 -- `code` meets its contract: number and line are small enough that the code is their plain sum. Assumes nothing.
 use mathlib.Core.Path.{refl}
-use borrow.Author.Rules.{rules}
 use Rattle.ludopoplar.specs.Codes.{code_of}
 use Rattle.ludopoplar.proofs.code.Goals as goal
 

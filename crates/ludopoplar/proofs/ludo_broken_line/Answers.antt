@@ -4,11 +4,5 @@ use mathlib.Core.Path.{refl}
 use Rattle.ludopoplar.proofs.SessionLaws.{found}
 use Rattle.ludopoplar.proofs.ludo_broken_line.Goals as goal
 
-pub find-found-requires : goal.find-found-requires
-find-found-requires c = tt
-
-pub trace_number-requires : goal.trace_number-requires
-trace_number-requires c = tt
-
 pub returns : goal.returns
 returns c = let p = found _ _ _ c.find-found.result _ _ _ _ refl c.trace_number.ensures refl refl c.find-found.ensures.value c.find-found.ensures.first in record { length_after = p.0; first = p.1 }

@@ -4,39 +4,18 @@ use Rattle.ludopoplar.specs.Runs.{start_code, start_call}
 use Rattle.ludopoplar.proofs.CallLaws.{starts}
 use Rattle.ludopoplar.proofs.ludo_start.Goals as goal
 
-pub start-started-requires : goal.start-started-requires
-start-started-requires c = tt
-
-pub enum_told-1 : goal.enum_told-1
-enum_told-1 c = c.in-Ready.in-Ready-own.keys1
-
-pub enum_known-outcome : goal.enum_known-outcome
-enum_known-outcome c = c.in-Refused.in-Refused-own.keys2
-
-pub refusal-requires : goal.refusal-requires
-refusal-requires c = tt
-
-pub code-requires : goal.code-requires
-code-requires c = tt
-
-pub shape_of-latches-in-Ready : goal.shape_of-latches-in-Ready
-shape_of-latches-in-Ready c = c.start-started.auto.latches
-
-pub returns-in-Ready : goal.returns-in-Ready
+pub returns-in-Ok : goal.returns-in-Ok
 unfolding start_call start_code
-returns-in-Ready c = record {
-  rejected_after = rw (← c.start-started.ensures.latches_after, c.in-Ready.is);
+returns-in-Ok c = record {
+  rejected_after = rw (← c.start-started.ensures.latches_after, c.in-Ok.is);
   starts = starts _ _ _ _ c.start-started.ensures.computed
-      (rw (← c.start-started.ensures.latches_after, c.in-Ready.is));
+      (rw (← c.start-started.ensures.latches_after, c.in-Ok.is));
 }
 
-pub shape_of-latches-in-Refused : goal.shape_of-latches-in-Refused
-shape_of-latches-in-Refused c = c.start-started.auto.latches
-
-pub returns-in-Refused : goal.returns-in-Refused
+pub returns-in-Err : goal.returns-in-Err
 unfolding start_call start_code
-returns-in-Refused c = record {
-  rejected_after = rw (← c.start-started.ensures.latches_after, c.in-Refused.is, c.code.ensures, c.refusal.ensures);
+returns-in-Err c = record {
+  rejected_after = rw (← c.start-started.ensures.latches_after, c.in-Err.is, c.code.ensures, c.refusal.ensures);
   starts = starts _ _ _ _ c.start-started.ensures.computed
-      (rw (← c.start-started.ensures.latches_after, c.in-Refused.is, c.code.ensures, c.refusal.ensures));
+      (rw (← c.start-started.ensures.latches_after, c.in-Err.is, c.code.ensures, c.refusal.ensures));
 }

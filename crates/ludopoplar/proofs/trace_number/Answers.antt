@@ -2,10 +2,10 @@
 use Rattle.ludopoplar.specs.Sessions.{trace_number}
 use Rattle.ludopoplar.proofs.trace_number.Goals as goal
 
-pub returns-then-handle : goal.returns-then-handle
+pub returns-in-Flywheel : goal.returns-in-Flywheel
 unfolding trace_number
-returns-then-handle c = rw c.if-handle.true
+returns-in-Flywheel c = rw c.in-Flywheel.is
 
-pub returns : goal.returns
+pub returns-in-Handle : goal.returns-in-Handle
 unfolding trace_number
-returns c = rw c.if-handle.false
+returns-in-Handle c = rw c.in-Handle.is

@@ -1,5 +1,4 @@
 -- `verdict_number` meets its contract, case by case. Assumes nothing.
-use borrow.Author.Rules.{rules}
 use Rattle.ludopoplar.specs.Runs.{verdict_number}
 use Rattle.ludopoplar.proofs.verdict_number.Goals as goal
 

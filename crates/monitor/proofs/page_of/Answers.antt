@@ -1,15 +1,10 @@
 -- A page always fits, so what is printed is the whole page.
-use Rattle.std.proofs.Common.{refl, arith}
+use Rattle.std.proofs.Common.{arith}
 use Rattle.page.specs.Pages.{monitor_text}
-use Rattle.page.proofs.ProgramLaws.{printed, never, monitor_cut}
+use Rattle.page.proofs.ProgramLaws.{printed, monitor_cut}
 use Rattle.monitor.proofs.page_of.Goals as goal
 
-pub returns-in-Bytes : goal.returns-in-Bytes
-returns-in-Bytes c =
-    let e = c.in-Bytes.ensures in
-    printed monitor_text 65537 250991 monitor_cut c.args.input.now c.args.n c.args.out.now e.out_after e.fits (omega arith) (omega arith) refl
-
-pub returns-in-Refused : goal.returns-in-Refused
-returns-in-Refused c =
-    let e = c.in-Refused.ensures in
-    never monitor_text 65537 250991 monitor_cut c.args.input.now c.args.n c.args.out.now e.out_after e.fits (omega arith) (omega arith) refl
+pub returns : goal.returns
+returns c =
+    let e = c.monitor_page.ensures in
+    printed monitor_text 65537 250991 monitor_cut c.args.input.now c.args.n c.args.out.now e.out_after e.fits (omega arith) (omega arith) c.unwrap_or.ensures

@@ -2,7 +2,7 @@
 use native.Mathlib.Nat.{le_antisymm}
 use native.Mathlib.Omega.{arith}
 use borrow.Author.Rules.{rules}
-use Rattle.text.proofs.WriterLaws.{more, kept}
+use Rattle.text.proofs.WritingLaws.{more}
 use Rattle.netlist.proofs.ValidLaws.{valid}
 use Rattle.packed.specs.Format.{packed_gate}
 use Rattle.packed.proofs.FormatLaws.{gate-ordered}
@@ -18,16 +18,13 @@ overflow_add-first c =
     let v = valid _ c.requires.net_value.0 in
     search rules
 
-pub put_gate-p-requires : goal.put_gate-p-requires
-put_gate-p-requires c = let p = gate-ordered _ _ _ c.loop-k.k c.requires.net_value.0 (omega arith) c.requires.from_value.0 c.requires.from_value.1 in record { from_in_bounds = p.0; from_bound = p.1 }
+pub put_gate-requires : goal.put_gate-requires
+put_gate-requires c = let p = gate-ordered _ _ _ c.loop-k.k c.requires.net_value.0 (omega arith) c.requires.from_value.0 c.requires.from_value.1 in record { from_in_bounds = p.0; from_bound = p.1 }
 
 pub loop-k-preserved : goal.loop-k-preserved
 unfolding packed_gate
 loop-k-preserved c =
-    (search rules, more _ c.loop-k.k c.loop-k.invariant.1 (rw (c.requires.from_value.0, c.requires.from_value.1) at c.put_gate-p.ensures))
-
-pub shape_of-bytes : goal.shape_of-bytes
-shape_of-bytes c = kept c.loop-k.invariant.1
+    (search rules, more _ c.loop-k.k c.loop-k.invariant.1 (rw (c.requires.from_value.0, c.requires.from_value.1) at c.put_gate.ensures))
 
 pub returns : goal.returns
 returns c = rw (le_antisymm c.loop-k.invariant.0 c.loop-k-test.false) at c.loop-k.invariant.1

@@ -1,6 +1,6 @@
--- Each case ends after it starts.
-use Rattle.std.proofs.Common.{◌-◌, length}
+-- `cases` ends: what is left gets shorter with each case.
+use lib.ListN.{length}
 use Rattle.packed_cases.proofs.cases.Given as goal
 
-abbrev pub decreases-loop-at : goal.decreases-loop-at
-decreases-loop-at g l = length l.input - l.at
+abbrev pub decreases-loop-size : goal.decreases-loop-size
+decreases-loop-size g l = length l.rest

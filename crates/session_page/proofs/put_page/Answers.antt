@@ -1,14 +1,13 @@
 -- `session_page::put_page` meets its contract. Assumes nothing.
 use native.Mathlib.Omega.{arith}
-use Rattle.text.proofs.WriterLaws.{then}
+use Rattle.text.proofs.WritingLaws.{then}
 use Rattle.session_text.specs.Pages.{session_page}
 use Rattle.session_text.proofs.RejectedLaws.{rejected-most}
 use Rattle.session_page.proofs.PrintableLaws.{bits_are}
-use borrow.Author.Rules.{rules}
 use Rattle.session_page.proofs.put_page.Goals as goal
 
-pub put_cells-p2-requires : goal.put_cells-p2-requires
-put_cells-p2-requires c =
+pub put_cells-requires : goal.put_cells-requires
+put_cells-requires c =
     bits_are c.args.name.now c.args.verdicts.now c.requires.0
 
 pub overflow_cast-tally-2 : goal.overflow_cast-tally-2
@@ -22,4 +21,4 @@ put_last-requires c =
 pub returns : goal.returns
 unfolding session_page
 returns c =
-    then c.put_title-p1.ensures (then c.put_cells-p2.ensures (rw c.requires.2 at c.put_last.ensures))
+    then c.put_title.ensures (then c.put_cells.ensures (rw c.requires.2 at c.put_last.ensures))

@@ -1,16 +1,14 @@
 -- What the private functions count and write. Assumes nothing.
-use Rattle.std.specs.Prelude.{cond, List, [], ◌++◌, ℕ, ◌*◌, ◌%◌, eqb, length}
+use Rattle.std.specs.Prelude.{Option, Some, None, cond, List, [], ◌++◌, ℕ, ◌*◌, ◌%◌, eqb, length}
 use Rattle.text.specs.Quoted.{bytes}
 use Rattle.trace.specs.Verdicts.{all_bits}
 use Rattle.session_text.specs.Fields.{right}
 use Rattle.session_text.specs.Pages.{rejected_of}
 use Rattle.session_text.specs.Claims.{rest_blank}
-use Rattle.session_page.specs.declared.printable.Count.{Count}
-use Rattle.session_page.specs.declared.printable.Count.TheVariants.{Rejected, NotBits}
 
 -- the rejected cycles are counted where no byte is above 1
-unfoldable pub count_of : List ℕ → Count
-count_of verdicts = cond (all_bits verdicts) (Rejected (length (rejected_of verdicts))) NotBits
+unfoldable pub count_of : List ℕ → Option ℕ
+count_of verdicts = cond (all_bits verdicts) (Some (length (rejected_of verdicts))) None
 
 -- a rejected cycle, where so many stand before it: the tenth ends its line
 unfoldable pub cell_text : ℕ → ℕ → List ℕ

@@ -1,39 +1,40 @@
--- `named_sheet` meets its contract: the monitor's input is judged by its two parts. Assumes nothing.
-use mathlib.Core.Path.{sym}
+-- `named_sheet` meets its contract: a judgement of its two parts, with a byte for each cycle, is laid out. Assumes nothing.
+use mathlib.Core.List.{List}
+use Prim.Native.Nat.{ℕ}
 use native.Mathlib.Omega.{arith}
-use borrow.Author.Rules.{rules}
-use lib.Seq.{length-take-le}
-use Rattle.page_text.proofs.PartLaws.{graph-within, trace-at}
-use Rattle.sheet_page.proofs.SheetLaws.{parted_sheet}
-use mathlib.Core.Logic.{◌⊎◌, inl, inr}
-use mathlib.Core.Path.{◌≡◌}
-use Prim.Native.Nat.{◌+◌, ◌<◌, ◌≤◌}
-use lib.ListN.{length}
+use lib.ListN.{length-take}
+use Rattle.calls.specs.declared.tally.Tally.{Tally}
+use Rattle.simulator.specs.declared.outcome.Verdict.{Verdict}
+use Rattle.judge.proofs.EndLaws.{done_within}
+use Rattle.page.proofs.AnswerLaws.{answer_text, judged-text}
+use Rattle.session_text.specs.Pages.{session_page}
+use Rattle.sheet_page.specs.Sheets.{trace_sheet}
+use Rattle.sheet_page.proofs.JudgedLaws.{done_printable}
 use Rattle.sheet_page.proofs.named_sheet.Goals as goal
-use Rattle.sheet_page.proofs.named_sheet.Goals.{then-end-rest, else-end-rest}
 
-pub slice_bounds-judged_sheet-end : goal.slice_bounds-judged_sheet-end
-slice_bounds-judged_sheet-end c =
-    let s = c.args.rest.now in
-    sym (length-take-le _ s (omega (arith, graph-within s, c.graph_length-end.ensures.value)))
+-- what a sheet shows of a judgement
+abbrev shown : List ℕ → Tally → Verdict → List ℕ → List ℕ
+shown name t v bytes = session_page name bytes
 
-pub slice_bounds-judged_sheet-count : goal.slice_bounds-judged_sheet-count
-slice_bounds-judged_sheet-count c =
-    let s = c.args.rest.now in
-    let end = c.graph_length-end.result in
-    let at = c.if-end-rest.at in
-    let b : ((end < length s) × (at ≡ end + 2)) ⊎ ((length s ≤ end) × (at ≡ end)) =
-    elim c.if-end-rest.branch [ then-end-rest w ↦ inl (omega arith, omega arith) | else-end-rest w ↦ inr (omega arith, omega arith) ] in
-    (trace-at s at c.graph_length-end.ensures.value b (λ w. w) (λ w. w)).within
+pub slice_bounds-verdicts-end : goal.slice_bounds-verdicts-end
+slice_bounds-verdicts-end c =
+    omega (arith, done_within c.graph_and_trace.result.0.now c.graph_and_trace.result.1.now _ c.judge.ensures.verdicts_after c.in-Ok.is)
 
-pub returns : goal.returns
-returns c =
-    let a = c.args in
-    let s = a.rest.now in
-    let g = c.graph_length-end.ensures.value in
-    let end = c.graph_length-end.result in
-    let at = c.if-end-rest.at in
-    let b : ((end < length s) × (at ≡ end + 2)) ⊎ ((length s ≤ end) × (at ≡ end)) =
-    elim c.if-end-rest.branch [ then-end-rest w ↦ inl (omega arith, omega arith) | else-end-rest w ↦ inr (omega arith, omega arith) ] in
-    let t = trace-at s at g b (λ w. w) (λ w. w) in
-    rw (parted_sheet a.name.now s c.if-end-rest.at g t.part) at c.judged_sheet.ensures
+pub laid_page-requires : goal.laid_page-requires
+laid_page-requires c =
+    let few = done_within c.graph_and_trace.result.0.now c.graph_and_trace.result.1.now _ c.judge.ensures.verdicts_after c.in-Ok.is in (
+      done_printable c.graph_and_trace.result.0.now c.graph_and_trace.result.1.now _ (omega (arith, c.requires, c.graph_and_trace.ensures.within)) (omega (arith, c.requires, c.graph_and_trace.ensures.within)) c.args.name.now c.judge.ensures.verdicts_after c.in-Ok.is c.requires.0,
+      rw length-take (omega (arith, few)),
+    )
+
+pub returns-in-Ok : goal.returns-in-Ok
+unfolding answer_text trace_sheet
+returns-in-Ok c =
+    let page = judged-text (shown c.args.name.now) c.graph_and_trace.result.0.now c.graph_and_trace.result.1.now _ (omega (arith, c.requires, c.graph_and_trace.ensures.within)) (omega (arith, c.requires, c.graph_and_trace.ensures.within)) c.judge.ensures.verdicts_after in
+    rw (rw c.in-Ok.is at page, c.graph_and_trace.ensures.graph, c.graph_and_trace.ensures.trace) at c.laid_page.ensures
+
+pub returns-in-Err : goal.returns-in-Err
+unfolding answer_text trace_sheet
+returns-in-Err c =
+    let page = judged-text (shown c.args.name.now) c.graph_and_trace.result.0.now c.graph_and_trace.result.1.now _ (omega (arith, c.requires, c.graph_and_trace.ensures.within)) (omega (arith, c.requires, c.graph_and_trace.ensures.within)) c.judge.ensures.verdicts_after in
+    rw (c.refusal.ensures, rw c.in-Err.is at page, c.graph_and_trace.ensures.graph, c.graph_and_trace.ensures.trace) at c.refused_page.ensures

@@ -7,10 +7,9 @@ use native.Mathlib.Omega.{arith}
 use native.Mathlib.Decide.{dec_lt}
 use borrow.Author.Tests.{le-leb, lt-leb, not-true, not-false}
 use lib.Dec.{leb, eqb}
+use Rattle.std.specs.Prelude.{Option, Some, None}
 use lib.ListN.{length, get_or, drop}
 use Rattle.text.specs.Numbers.{is_digit, leading_digits, value_from, is_numeral, read_number}
-use Rattle.text.specs.declared.Number.{Number}
-use Rattle.text.specs.declared.Number.TheVariants.{Read, None}
 use Rattle.text.proofs.NumberLaws.{tens_le, tens_grow, digit_range, digit-inside, leading_stop, leading_step, value_stop, value_step}
 use Rattle.text.proofs.ReadBack.{reads-back}
 use Rattle.text.proofs.read_number.Invariants.{Reading}
@@ -53,7 +52,7 @@ lead s at h = go (is_digit (get_or s at 0)) refl
     go false e = absurd (omega (arith, ap length (leading_stop s at e)))
 
 -- no digit more: what `numeral` answers of the first byte, the count and the value
-ended : {s : List ℕ} {at value p first : ℕ} {answer : Number} → Reading s at value p → is_digit (get_or s p 0) ≡ false → first ≡ get_or s at 0 → answer ≡ cond (leb 1 (p - at) && (eqb (p - at) 1 || not (eqb first 48))) (Read value p) None → answer ≡ read_number s at
+ended : {s : List ℕ} {at value p first : ℕ} {answer : Option (ℕ × ℕ)} → Reading s at value p → is_digit (get_or s p 0) ≡ false → first ≡ get_or s at 0 → answer ≡ cond (leb 1 (p - at) && (eqb (p - at) 1 || not (eqb first 48))) (Some (value, p)) None → answer ≡ read_number s at
 unfolding read_number is_numeral
 ended {s} {at} {value} {p} r h f a =
     let none = leading_stop s p h in

@@ -1,6 +1,7 @@
 -- `Cause::refusal` meets its contract. Assumes nothing.
+use mathlib.Core.Path.{sym}
 use Rattle.aiger_file.specs.Read.{refusal_of}
-use borrow.Author.Rules.{rules}
+use Rattle.aiger_file.proofs.KeptLaws.{faulty-line}
 use Rattle.aiger_file.proofs.Cause.refusal.Goals as goal
 
 pub returns-in-TextTooLong : goal.returns-in-TextTooLong
@@ -11,21 +12,16 @@ pub returns-in-ShortBuffer : goal.returns-in-ShortBuffer
 unfolding refusal_of
 returns-in-ShortBuffer c = rw c.in-ShortBuffer.is
 
+pub returns-in-FaultyLine : goal.returns-in-FaultyLine
+returns-in-FaultyLine c = rw (c.in-FaultyLine.is, c.number.ensures) (sym (faulty-line _ _))
+
 pub returns-in-WrongShape : goal.returns-in-WrongShape
 unfolding refusal_of
-returns-in-WrongShape c = rw (c.in-FaultyLine.is, c.in-WrongShape.is)
+returns-in-WrongShape c = rw (c.in-FaultyRun.is, c.in-WrongShape.is)
 
 pub returns-in-OutOfLimits : goal.returns-in-OutOfLimits
 unfolding refusal_of
-returns-in-OutOfLimits c = rw (c.in-FaultyLine.is, c.in-OutOfLimits.is)
-
-pub returns-in-WrongShape-fault : goal.returns-in-WrongShape-fault
-unfolding refusal_of
-returns-in-WrongShape-fault c = rw (c.in-FaultyRun.is, c.in-WrongShape-fault.is)
-
-pub returns-in-OutOfLimits-fault : goal.returns-in-OutOfLimits-fault
-unfolding refusal_of
-returns-in-OutOfLimits-fault c = rw (c.in-FaultyRun.is, c.in-OutOfLimits-fault.is)
+returns-in-OutOfLimits c = rw (c.in-FaultyRun.is, c.in-OutOfLimits.is)
 
 pub returns-in-WaitingGates : goal.returns-in-WaitingGates
 unfolding refusal_of

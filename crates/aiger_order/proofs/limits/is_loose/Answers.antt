@@ -19,7 +19,7 @@ pub operands_ok-requires : goal.operands_ok-requires
 operands_ok-requires c =
     let g = c.gates_of-gates.ensures in
     let o = outline _ ((sym c.is_outline.ensures.value ∙ not-false _ c.if-not-is_outline.false-raw)) in
-    record { at_value = (g.at, made _ true (omega arith) c.literal-last.ensures); count_in_bounds = omega arith }
+    record { at_value = (g.at, rw (← c.of.ensures.maximum) (made _ true (omega (arith, o, c.of.ensures.maximum)) c.literal-last.ensures)); count_in_bounds = omega arith }
 
 pub returns : goal.returns
 unfolding is_loose

@@ -12,9 +12,6 @@ use Rattle.aiger_order.proofs.StoreLaws.{latch_sized, stored_next}
 use borrow.Author.Rules.{rules}
 use Rattle.aiger_order.proofs.stores.store_latches.Goals as goal
 
-pub bounds-loose-2 : goal.bounds-loose-2
-bounds-loose-2 c = let o = (facts _ c.requires.0) in search rules
-
 pub loop-k-init : goal.loop-k-init
 loop-k-init c = let o = (facts _ c.requires.0) in (search rules, omega arith, omega arith, refl)
 
@@ -22,7 +19,7 @@ pub new_literal-next-requires : goal.new_literal-next-requires
 new_literal-next-requires c =
     let o = (facts _ c.requires.0) in
     let n = c.requires.1 in
-    let h = o.nexts c.loop-k.k c.loop-k-test.true in
+    let h = o.nexts c.loop-k.k (rw c.of-count.ensures.latches at c.loop-k-test.true) in
     (omega (arith, n.long, o.small), n.all _ h)
 
 pub loop-k-preserved : goal.loop-k-preserved

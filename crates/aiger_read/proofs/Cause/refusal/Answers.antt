@@ -1,6 +1,7 @@
 -- `Cause::refusal` meets its contract. Assumes nothing.
 use Rattle.aiger_read.specs.Read.{refusal_of}
-use borrow.Author.Rules.{rules}
+use mathlib.Core.Path.{sym}
+use Rattle.aiger_read.proofs.ReadLaws.{faulty-line}
 use Rattle.aiger_read.proofs.Cause.refusal.Goals as goal
 
 pub returns-in-TextTooLong : goal.returns-in-TextTooLong
@@ -11,13 +12,8 @@ pub returns-in-ShortBuffer : goal.returns-in-ShortBuffer
 unfolding refusal_of
 returns-in-ShortBuffer c = rw c.in-ShortBuffer.is
 
-pub returns-in-WrongShape : goal.returns-in-WrongShape
-unfolding refusal_of
-returns-in-WrongShape c = rw (c.in-FaultyLine.is, c.in-WrongShape.is)
-
-pub returns-in-OutOfLimits : goal.returns-in-OutOfLimits
-unfolding refusal_of
-returns-in-OutOfLimits c = rw (c.in-FaultyLine.is, c.in-OutOfLimits.is)
+pub returns-in-FaultyLine : goal.returns-in-FaultyLine
+returns-in-FaultyLine c = rw (c.in-FaultyLine.is, c.number.ensures) (sym (faulty-line _ _))
 
 pub returns-in-WaitingGates : goal.returns-in-WaitingGates
 unfolding refusal_of

@@ -6,7 +6,6 @@ use native.Mathlib.Omega.{arith}
 use Rattle.netlist.specs.Literals.{literal_of, variable_of, is_inverted}
 use Rattle.netlist.proofs.LiteralLaws.{made, literal-plain, literal-inverted, inverted-literal, variable-within}
 use Rattle.aiger_read.proofs.RowLaws.{no_gate, gate-fresh, gate-within}
-use borrow.Author.Rules.{rules}
 use Rattle.aiger_read.proofs.lines.gate_fits.Goals as goal
 
 pub returns-then-lit-largest : goal.returns-then-lit-largest

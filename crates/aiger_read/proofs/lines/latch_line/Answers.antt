@@ -1,18 +1,24 @@
 -- `latch_line` meets its contract. Assumes nothing.
-use Rattle.aiger_lines.specs.Private.Steps.{row_in}
-use Rattle.aiger_read.proofs.RowLaws.{latch_wrong, latch_other, latch_own}
+use mathlib.Core.Path.{◌≡◌}
 use borrow.Author.Rules.{rules}
+use Rattle.std.specs.Prelude.{Err}
+use Rattle.aiger_lines.specs.Private.Steps.{row_in}
+use Rattle.aiger_lines.proofs.LineLaws.{shape_none, shape_some}
+use Rattle.aiger_read.proofs.RowLaws.{latch_wrong, latch_other, latch_own}
 use Rattle.aiger_read.proofs.lines.latch_line.Goals as goal
 
-pub returns-then-not-line : goal.returns-then-not-line
+pub returns-in_err-line : goal.returns-in_err-line
 unfolding row_in
-returns-then-not-line c = latch_wrong _ _ _ _ c.two_or_three-line.ensures _ _ c.if-not-line.true
+returns-in_err-line c =
+    let w = shape_none c.two_or_three.result c.ok_or.ensures.value c.in_err-line.was in
+    let r : c.from_residual.result ≡ Err c.in_err-line.field-0.0 = search rules in
+    rw (r, w.1) (latch_wrong _ _ _ _ c.two_or_three.ensures _ _ w.0)
 
 pub returns-then-latch-lit : goal.returns-then-latch-lit
 unfolding row_in
 returns-then-latch-lit c =
-    latch_other _ _ _ _ c.two_or_three-line.ensures _ _ c.if-not-line.false c.if-latch-lit.true
+    latch_other _ _ _ _ c.two_or_three.ensures _ _ _ (shape_some _ c.ok_or.ensures.value c.in_ok-line.was) c.if-latch-lit.true
 
 pub returns : goal.returns
 returns c =
-    latch_own _ _ _ _ c.two_or_three-line.ensures _ _ c.if-not-line.false c.if-latch-lit.false _ c.latch_says.ensures
+    latch_own _ _ _ _ c.two_or_three.ensures _ _ _ (shape_some _ c.ok_or.ensures.value c.in_ok-line.was) c.if-latch-lit.false _ c.latch_says.ensures

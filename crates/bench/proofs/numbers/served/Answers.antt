@@ -1,7 +1,6 @@
 -- `bench::numbers::served` meets its contract. Assumes nothing.
 use native.Mathlib.Omega.{arith}
 use lib.ListN.{length-set}
-use borrow.Author.Rules.{rules}
 use Rattle.bench.proofs.numbers.served.Goals as goal
 
 pub bounds-bench-at-2 : goal.bounds-bench-at-2

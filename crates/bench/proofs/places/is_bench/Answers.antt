@@ -2,7 +2,6 @@
 use native.Mathlib.Omega.{arith}
 use lib.ListN.{length}
 use borrow.Author.Tests.{le-leb, lt-leb}
-use borrow.Author.Rules.{rules}
 use Rattle.bench_turns.specs.Numbers.{is_bench}
 use Rattle.bench.proofs.places.is_bench.Goals as goal
 

@@ -1,7 +1,6 @@
 -- `bench::places::is_place` meets its contract. Assumes nothing.
 use mathlib.Core.Path.{sym, ◌∙◌}
 use borrow.Author.Tests.{le-leb, lt-leb, not-true, not-false}
-use borrow.Author.Rules.{rules}
 use Rattle.netlist.proofs.ValidLaws.{valid}
 use Rattle.bench_turns.specs.Numbers.{is_place}
 use Rattle.bench.proofs.places.is_place.Goals as goal
@@ -21,8 +20,8 @@ returns-then-queue-n c = rw (sym c.is_netlist.ensures.value ∙ not-false _ c.if
 pub are_cycles-requires : goal.are_cycles-requires
 are_cycles-requires c =
     let v = valid _ (sym c.is_netlist.ensures.value ∙ not-false _ c.if-not-is_netlist.false-raw) in
-    (rw c.header.ensures.0 v.few, c.if-queue-n.false)
+    (rw c.of.ensures.inputs v.few, c.if-queue-n.false)
 
 pub returns : goal.returns
 unfolding is_place
-returns c = rw (sym c.is_netlist.ensures.value ∙ not-false _ c.if-not-is_netlist.false-raw, le-leb _ _ c.if-n-gt-MAX_WAITING.false, le-leb _ _ c.if-queue-n.false, ← c.header.ensures.0) c.are_cycles.ensures
+returns c = rw (sym c.is_netlist.ensures.value ∙ not-false _ c.if-not-is_netlist.false-raw, le-leb _ _ c.if-n-gt-MAX_WAITING.false, le-leb _ _ c.if-queue-n.false, ← c.of.ensures.inputs) c.are_cycles.ensures

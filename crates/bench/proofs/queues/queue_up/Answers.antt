@@ -3,28 +3,21 @@ use mathlib.Core.Path.{ap, ◌∙◌}
 use mathlib.Core.List.{List}
 use Prim.Native.Nat.{ℕ}
 use native.Mathlib.Omega.{arith}
-use borrow.Author.Rules.{rules}
 use Rattle.bench_turns.specs.Parts.{with_part, placed}
 use Rattle.bench_turns.proofs.PartLaws.{fits}
-use Rattle.bench.proofs.SliceLaws.{part-is, back_is}
+use Rattle.bench.proofs.SliceLaws.{part-is, back_with}
 use Rattle.bench.proofs.queues.queue_up.Goals as goal
-
-pub overflow_mul-at : goal.overflow_mul-at
-overflow_mul-at c = omega (arith, fits c.args.k c.args.queues.now c.requires.k_bound)
-
-pub overflow_add-end : goal.overflow_add-end
-overflow_add-end c = omega (arith, fits c.args.k c.args.queues.now c.requires.k_bound)
 
 pub slice_bounds-place-end : goal.slice_bounds-place-end
 slice_bounds-place-end c = omega (arith, fits c.args.k c.args.queues.now c.requires.k_bound)
 
 pub place-requires : goal.place-requires
 place-requires c =
-    rw (part-is c.args.k c.args.queues.now) c.requires.cycle_in_bounds
+    rw (part-is c.args.k c.args.queues.now _ _ c.bounds-at.ensures.0 c.bounds-at.ensures.1) c.requires.cycle_in_bounds
 
 pub returns : goal.returns
 returns c =
     let p = c.place in
-    back_is c.args.k c.args.queues.now p.new.queue
+    back_with c.args.k c.args.queues.now _ _ c.bounds-at.ensures.0 c.bounds-at.ensures.1 p.new.queue
     ∙ ap (λ (z : List ℕ). with_part c.args.k z c.args.queues.now) p.ensures
-    ∙ ap (λ (z : List ℕ). with_part c.args.k (placed c.args.n c.args.cycle.now z) c.args.queues.now) (part-is c.args.k c.args.queues.now)
+    ∙ ap (λ (z : List ℕ). with_part c.args.k (placed c.args.n c.args.cycle.now z) c.args.queues.now) (part-is c.args.k c.args.queues.now _ _ c.bounds-at.ensures.0 c.bounds-at.ensures.1)

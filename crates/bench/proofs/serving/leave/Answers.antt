@@ -1,7 +1,6 @@
 -- `bench::serving::leave` meets its contract. Assumes nothing.
 use mathlib.Core.Path.{ap, ◌∙◌}
 use Prim.Native.Nat.{ℕ, ◌-◌}
-use borrow.Author.Rules.{rules}
 use Rattle.bench_turns.specs.Parts.{part_of, with_part, shifted}
 use Rattle.bench_turns.specs.Numbers.{with_waiting, with_tally, with_last}
 use Rattle.bench.proofs.serving.leave.Goals as goal

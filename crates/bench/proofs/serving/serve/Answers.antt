@@ -1,23 +1,43 @@
 -- `bench::serving::serve` meets its contract. Assumes nothing.
+use mathlib.Core.Path.{◌≡◌}
 use native.Mathlib.Omega.{arith}
 use borrow.Author.Rules.{rules}
-use Rattle.bench.proofs.ServeLaws.{some, slots, refuses, serves, enough_numbers}
+use Rattle.std.specs.Prelude.{Err}
+use Rattle.bench_turns.specs.Refusals.{cause_of}
+use Rattle.bench.proofs.ServeLaws.{machine, some, slots, refuses, serves, enough_numbers}
 use Rattle.bench.proofs.serving.serve.Goals as goal
 
 pub step_machine-stepped-requires : goal.step_machine-stepped-requires
-step_machine-stepped-requires c = record { k_bound = (c.requires.k_bound.0, some c.args.nets.now c.args.latches.now c.args.values.now c.args.queues.now c.args.bench.now c.requires.bench_value c.args.k c.requires.k_bound.1 (λ e. omega (arith, c.requires.k_bound.0))); bench_value = c.requires.bench_value }
+step_machine-stepped-requires c =
+    let x = c.args in
+    let m = machine x.nets.now x.latches.now x.values.now x.queues.now x.bench.now c.requires.bench_value x.k c.requires.k_next.0 c.requires.k_next.1 in
+    let s = some x.nets.now x.latches.now x.values.now x.queues.now x.bench.now c.requires.bench_value x.k c.requires.k_next.0 c.requires.k_next.1 in
+    record { k_bound = (m, s); bench_value = c.requires.bench_value }
 
 pub leave-requires : goal.leave-requires
 leave-requires c =
-    (c.requires.k_bound.0, (enough_numbers c.args.nets.now c.args.latches.now c.args.values.now c.args.queues.now c.args.bench.now c.requires.bench_value).0, some c.args.nets.now c.args.latches.now c.args.values.now c.args.queues.now c.args.bench.now c.requires.bench_value c.args.k c.requires.k_bound.1 (λ e. omega (arith, c.requires.k_bound.0)), slots c.args.nets.now c.args.latches.now c.args.values.now c.args.queues.now c.args.bench.now c.requires.bench_value c.args.k c.requires.k_bound.1 (λ e. omega (arith, c.requires.k_bound.0)))
+    let x = c.args in
+    let m = machine x.nets.now x.latches.now x.values.now x.queues.now x.bench.now c.requires.bench_value x.k c.requires.k_next.0 c.requires.k_next.1 in
+    let n = enough_numbers x.nets.now x.latches.now x.values.now x.queues.now x.bench.now c.requires.bench_value in
+    let s = some x.nets.now x.latches.now x.values.now x.queues.now x.bench.now c.requires.bench_value x.k c.requires.k_next.0 c.requires.k_next.1 in
+    let l = slots x.nets.now x.latches.now x.values.now x.queues.now x.bench.now c.requires.bench_value x.k c.requires.k_next.0 c.requires.k_next.1 in
+    (m, n.0, s, l)
 
-pub returns-in-Refused : goal.returns-in-Refused
-returns-in-Refused c =
+pub overflow_cast-result : goal.overflow_cast-result
+overflow_cast-result c =
+    let x = c.args in
+    omega (arith, machine x.nets.now x.latches.now x.values.now x.queues.now x.bench.now c.requires.bench_value x.k c.requires.k_next.0 c.requires.k_next.1)
+
+pub returns-in_err-word : goal.returns-in_err-word
+returns-in_err-word c =
+    let x = c.args in
     let m = c.step_machine-stepped in
-    rw c.cause_of.ensures (refuses c.args.nets.now c.args.latches.now c.args.values.now c.args.queues.now c.args.bench.now c.requires.bench_value c.args.k c.requires.k_bound.1 (λ e. omega (arith, c.requires.k_bound.0)) m.result m.new.latches m.new.values m.ensures.0 m.ensures.1 m.ensures.2 _ c.in-Refused.is)
+    let q : c.from_residual.result ≡ Err (cause_of c.in_err-word.field-0.0) = search rules in
+    rw q (refuses x.nets.now x.latches.now x.values.now x.queues.now x.bench.now c.requires.bench_value x.k c.requires.k_next.0 c.requires.k_next.1 m.result m.new.latches m.new.values m.ensures.0 m.ensures.1 m.ensures.2 _ c.in_err-word.was)
 
-pub returns-in-Output : goal.returns-in-Output
-returns-in-Output c =
+pub returns : goal.returns
+returns c =
+    let x = c.args in
     let m = c.step_machine-stepped in
     let l = c.leave in
-    serves c.args.nets.now c.args.latches.now c.args.values.now c.args.queues.now c.args.bench.now c.requires.bench_value c.args.k c.requires.k_bound.1 (λ e. omega (arith, c.requires.k_bound.0)) m.result m.new.latches m.new.values m.ensures.0 m.ensures.1 m.ensures.2 _ _ c.in-Output.is _ _ l.ensures.0 l.ensures.1
+    serves x.nets.now x.latches.now x.values.now x.queues.now x.bench.now c.requires.bench_value x.k c.requires.k_next.0 c.requires.k_next.1 m.result m.new.latches m.new.values m.ensures.0 m.ensures.1 m.ensures.2 _ _ c.in_ok-word.was _ _ l.ensures.0 l.ensures.1

@@ -1,18 +1,8 @@
 -- `bench::serving::step_part` meets its contract. Assumes nothing.
 use native.Mathlib.Omega.{arith}
-use borrow.Author.Rules.{rules}
 use Rattle.bench_turns.proofs.PartLaws.{fits}
 use Rattle.bench.proofs.SliceLaws.{stepped-part}
 use Rattle.bench.proofs.serving.step_part.Goals as goal
-
-pub overflow_mul-at : goal.overflow_mul-at
-overflow_mul-at c = omega (arith, fits c.args.k c.args.latches.now c.requires)
-
-pub overflow_add-end : goal.overflow_add-end
-overflow_add-end c = omega (arith, fits c.args.k c.args.latches.now c.requires)
-
-pub offset_bounds-latches-at : goal.offset_bounds-latches-at
-offset_bounds-latches-at c = omega (arith, fits c.args.k c.args.latches.now c.requires)
 
 pub slice_bounds-step-end : goal.slice_bounds-step-end
 slice_bounds-step-end c = omega (arith, fits c.args.k c.args.latches.now c.requires)
@@ -20,4 +10,4 @@ slice_bounds-step-end c = omega (arith, fits c.args.k c.args.latches.now c.requi
 pub returns : goal.returns
 returns c =
     let r = c.step in
-    stepped-part c.args.net.now c.args.cycle.now c.args.latches.now c.args.values.now c.args.tally c.args.k r.result r.new.latches r.new.values r.ensures.values_after
+    stepped-part c.args.net.now c.args.cycle.now c.args.latches.now c.args.values.now c.args.tally c.args.k _ _ c.bounds-at.ensures.0 c.bounds-at.ensures.1 r.result r.new.latches r.new.values r.ensures.values_after

@@ -2,7 +2,6 @@
 use mathlib.Core.Path.{sym, ◌∙◌}
 use native.Mathlib.Omega.{arith}
 use borrow.Author.Tests.{not-true, not-false}
-use borrow.Author.Rules.{rules}
 use Rattle.bench.proofs.TestLaws.{no_machine, no_bench}
 use Rattle.bench.proofs.tests.add_check.Goals as goal
 

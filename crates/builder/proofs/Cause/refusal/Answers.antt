@@ -1,6 +1,5 @@
 -- `Cause::refusal` meets its contract. Assumes nothing.
 use Rattle.builder.specs.Build.{refusal_of}
-use borrow.Author.Rules.{rules}
 use Rattle.builder.proofs.Cause.refusal.Goals as goal
 
 pub returns-in-GraphText : goal.returns-in-GraphText

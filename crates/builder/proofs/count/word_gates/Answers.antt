@@ -1,9 +1,10 @@
 -- `builder::count::word_gates` meets its contract. Assumes nothing.
 use mathlib.Core.Path.{sym, ◌∙◌}
 use native.Mathlib.Omega.{arith}
-use borrow.Author.Rules.{rules}
-use Rattle.graph.specs.Private.Steps.{listed}
-use Rattle.builder.proofs.CountLaws.{gates-name, gates-byte, gates-bit, gates-alike, width_few}
+use Prim.Native.Nat.{◌-◌, ◌/◌}
+use Rattle.builder.specs.Private.Machine.{named}
+use Rattle.builder.proofs.CountLaws.{gates-name, gates-byte, gates-bit, gates-alike}
+use Rattle.builder.proofs.FormulaLaws.{found-bounded}
 use Rattle.builder.proofs.count.word_gates.Goals as goal
 
 pub returns-then-w-lt-BYTES : goal.returns-then-w-lt-BYTES
@@ -16,13 +17,13 @@ returns-then-w-lt-BITS c =
 pub returns-then-w-lt-ALIKE : goal.returns-then-w-lt-ALIKE
 returns-then-w-lt-ALIKE c = (sym (gates-bit _ _ _ c.if-w-lt-BITS.false c.if-w-lt-ALIKE.true), omega arith)
 
-pub overflow_mul-left : goal.overflow_mul-left
-overflow_mul-left c =
+pub overflow_mul-width : goal.overflow_mul-width
+overflow_mul-width c =
     let a = c.args in
-    omega (arith, width_few (listed a.text.now a.symbols.now a.total) _ c.requires c.found_in-left.ensures)
+    omega (arith, (found-bounded (named a.names.now) a.field.now ((a.w - 16777216) / 4096) c.requires).1, c.width_of-width.ensures)
 
 pub returns : goal.returns
 returns c =
     let a = c.args in
-    let f = c.found_in-left.ensures in
-    (c.less.ensures ∙ sym (gates-alike _ _ _ c.if-w-lt-ALIKE.false f), omega (arith, c.less.ensures, width_few (listed a.text.now a.symbols.now a.total) _ c.requires f))
+    let f = c.width_of-width.ensures in
+    (c.saturating_sub.ensures ∙ rw f (sym (gates-alike _ _ _ c.if-w-lt-ALIKE.false)), omega (arith, c.saturating_sub.ensures, f, (found-bounded (named a.names.now) a.field.now ((a.w - 16777216) / 4096) c.requires).1))

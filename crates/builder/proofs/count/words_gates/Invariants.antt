@@ -1,16 +1,9 @@
--- `builder::count::words_gates` meets its contract: the sum so far and the sum of what is left make up the sum. Assumes nothing.
-use mathlib.Core.Path.{◌≡◌}
-use Prim.Native.Nat.{◌+◌, ◌-◌, ◌*◌, ◌≤◌}
-use native.Mathlib.Omega.{arith}
-use borrow.Author.Rules.{rules}
-use Rattle.graph.specs.Private.Steps.{listed}
-use Rattle.builder.specs.Private.Machine.{summed, gates_at}
-use Rattle.builder.proofs.CountLaws.{summed-whole, summed_end, word-counted}
+-- `builder::count::words_gates` meets its contract: the sum so far. Assumes nothing.
+use Rattle.std.proofs.Common.{◌≡◌, ◌*◌, ◌≤◌, take}
+use Rattle.std.specs.List.{sum_by}
+use Rattle.builder.specs.Private.Machine.{named, word_gates}
 use Rattle.builder.proofs.count.words_gates.Given as goal
 
-abbrev pub invariant-loop-i : goal.invariant-loop-i
-invariant-loop-i l = let f = gates_at (listed l.text l.symbols l.total) l.field l.words in
-    (l.i ≤ l.count) × (l.sum ≤ 63 * l.i) × (l.sum + summed f l.i (l.count - l.i) ≡ summed f 0 l.count)
-
-abbrev pub decreases-loop-i : goal.decreases-loop-i
-decreases-loop-i l = l.count - l.i
+abbrev pub invariant-loop-w : goal.invariant-loop-w
+invariant-loop-w l =
+    (l.sum ≤ 63 * l.w-index) × (l.sum ≡ sum_by (word_gates (named l.names) l.field) (take l.w-index l.words))

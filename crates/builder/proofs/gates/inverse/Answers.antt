@@ -5,7 +5,6 @@ use native.Mathlib.Omega.{arith}
 use Rattle.netlist.specs.Literals.{variable_of}
 use Rattle.circuit.specs.Gates.{inv}
 use Rattle.netlist.proofs.LiteralLaws.{made}
-use borrow.Author.Rules.{rules}
 use Rattle.builder.proofs.gates.inverse.Goals as goal
 
 -- a literal's variable is below 32,768

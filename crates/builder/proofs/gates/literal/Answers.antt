@@ -1,7 +1,6 @@
 -- `literal` meets its contract. Assumes nothing.
 use native.Mathlib.Omega.{arith}
 use Rattle.netlist.proofs.LiteralLaws.{made}
-use borrow.Author.Rules.{rules}
 use Rattle.builder.proofs.gates.literal.Goals as goal
 
 pub returns : goal.returns

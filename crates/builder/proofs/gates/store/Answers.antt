@@ -1,7 +1,6 @@
 -- `store` meets its contract. Assumes nothing.
 use mathlib.Core.Path.{sym}
 use lib.Seq.{set_out}
-use borrow.Author.Rules.{rules}
 use Rattle.builder.proofs.gates.store.Goals as goal
 
 pub returns-else-at-out : goal.returns-else-at-out

@@ -1,7 +1,6 @@
 -- `put_header` meets its contract. Assumes nothing.
 use lib.ListN.{length-set}
 use native.Mathlib.Omega.{arith}
-use borrow.Author.Rules.{rules}
 use Rattle.builder.proofs.layout.put_header.Goals as goal
 
 pub bounds-net-1 : goal.bounds-net-1

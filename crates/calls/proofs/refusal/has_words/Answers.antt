@@ -6,8 +6,8 @@ use Rattle.calls.proofs.refusal.has_words.Goals as goal
 
 pub returns-then-latches-header : goal.returns-then-latches-header
 unfolding has_latches
-returns-then-latches-header c = rw (← c.header.ensures.0, lt-leb _ _ c.if-latches-header.true)
+returns-then-latches-header c = rw (← c.of-header.ensures.latches, lt-leb _ _ c.if-latches-header.true)
 
 pub returns : goal.returns
 unfolding has_latches has_values
-returns c = rw (← c.header.ensures.0, le-leb _ _ c.if-latches-header.false, ← c.header-2.ensures.0, add-one)
+returns c = rw (← c.of-header.ensures.latches, le-leb _ _ c.if-latches-header.false, ← c.of-header.ensures.maximum, add-one)

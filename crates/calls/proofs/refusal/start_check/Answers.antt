@@ -8,10 +8,10 @@ pub returns-then-not-is_netlist : goal.returns-then-not-is_netlist
 unfolding start_check
 returns-then-not-is_netlist c = rw (sym c.is_netlist.ensures.value ∙ not-true _ c.if-not-is_netlist.true-raw)
 
-pub returns-then-latches-header : goal.returns-then-latches-header
+pub returns-then-latches-of : goal.returns-then-latches-of
 unfolding start_check has_latches
-returns-then-latches-header c = rw (sym c.is_netlist.ensures.value ∙ not-false _ c.if-not-is_netlist.false-raw, ← c.header.ensures.0, lt-leb _ _ c.if-latches-header.true)
+returns-then-latches-of c = rw (sym c.is_netlist.ensures.value ∙ not-false _ c.if-not-is_netlist.false-raw, ← c.of.ensures.latches, lt-leb _ _ c.if-latches-of.true)
 
 pub returns : goal.returns
 unfolding start_check has_latches
-returns c = rw (sym c.is_netlist.ensures.value ∙ not-false _ c.if-not-is_netlist.false-raw, ← c.header.ensures.0, le-leb _ _ c.if-latches-header.false)
+returns c = rw (sym c.is_netlist.ensures.value ∙ not-false _ c.if-not-is_netlist.false-raw, ← c.of.ensures.latches, le-leb _ _ c.if-latches-of.false)

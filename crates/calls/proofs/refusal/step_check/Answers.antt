@@ -10,7 +10,7 @@ returns-then-not-is_netlist c = rw (sym c.is_netlist.ensures.value ∙ not-true 
 
 pub returns-then-not-is_cycle : goal.returns-then-not-is_cycle
 unfolding step_check
-returns-then-not-is_cycle c = rw (sym c.is_netlist.ensures.value ∙ not-false _ c.if-not-is_netlist.false-raw, ← c.header.ensures.0, sym c.is_cycle.ensures ∙ not-true _ c.if-not-is_cycle.true-raw)
+returns-then-not-is_cycle c = rw (sym c.is_netlist.ensures.value ∙ not-false _ c.if-not-is_netlist.false-raw, ← c.of-header.ensures.inputs, sym c.is_cycle.ensures ∙ not-true _ c.if-not-is_cycle.true-raw)
 
 pub has_words-requires : goal.has_words-requires
 has_words-requires c = sym c.is_netlist.ensures.value ∙ not-false _ c.if-not-is_netlist.false-raw
@@ -20,7 +20,7 @@ unfolding step_check
 returns-then-not-has_words c =
     rw (
       sym c.is_netlist.ensures.value ∙ not-false _ c.if-not-is_netlist.false-raw,
-      ← c.header.ensures.0,
+      ← c.of-header.ensures.inputs,
       sym c.is_cycle.ensures ∙ not-false _ c.if-not-is_cycle.false-raw,
       sym c.has_words.ensures ∙ not-true _ c.if-not-has_words.true-raw,
     )
@@ -30,7 +30,7 @@ unfolding step_check
 returns-then-not-has_room c =
     rw (
       sym c.is_netlist.ensures.value ∙ not-false _ c.if-not-is_netlist.false-raw,
-      ← c.header.ensures.0,
+      ← c.of-header.ensures.inputs,
       sym c.is_cycle.ensures ∙ not-false _ c.if-not-is_cycle.false-raw,
       sym c.has_words.ensures ∙ not-false _ c.if-not-has_words.false-raw,
       sym c.has_room.ensures ∙ not-true _ c.if-not-has_room.true-raw,
@@ -41,7 +41,7 @@ unfolding step_check
 returns c =
     rw (
       sym c.is_netlist.ensures.value ∙ not-false _ c.if-not-is_netlist.false-raw,
-      ← c.header.ensures.0,
+      ← c.of-header.ensures.inputs,
       sym c.is_cycle.ensures ∙ not-false _ c.if-not-is_cycle.false-raw,
       sym c.has_words.ensures ∙ not-false _ c.if-not-has_words.false-raw,
       sym c.has_room.ensures ∙ not-false _ c.if-not-has_room.false-raw,

@@ -1,16 +1,21 @@
 -- `calls::tally::has_room` meets its contract. Assumes nothing.
-use borrow.Author.Tests.{le-leb, lt-leb}
+use mathlib.Core.Path.{sym, ◌∙◌}
 use Rattle.calls.specs.Tallies.{has_room}
 use Rattle.calls.proofs.tally.has_room.Goals as goal
+use Rattle.calls.proofs.tally.has_room.Goals.{then-fits, else-fits}
 
-pub returns-then-before-cycles-gt-MAX_COUNT : goal.returns-then-before-cycles-gt-MAX_COUNT
+pub returns-then-fits-2 : goal.returns-then-fits-2
 unfolding has_room
-returns-then-before-cycles-gt-MAX_COUNT c = rw (lt-leb _ _ c.if-before-cycles-gt-MAX_COUNT.true)
+returns-then-fits-2 c =
+    elim c.if-fits.branch [
+      | then-fits w ↦ rw (sym c.fits.ensures ∙ w.if-fits.true, sym w.fits-then-fits.ensures ∙ sym w.value-is ∙ c.if-fits-2.true, c.fits-then-fits-2.ensures)
+      | else-fits w ↦ cc
+    ]
 
-pub returns-then-rejected-cycles-gt-MAX_COUNT : goal.returns-then-rejected-cycles-gt-MAX_COUNT
+pub returns-else-fits-2 : goal.returns-else-fits-2
 unfolding has_room
-returns-then-rejected-cycles-gt-MAX_COUNT c = rw (le-leb _ _ c.if-before-cycles-gt-MAX_COUNT.false, lt-leb _ _ c.if-rejected-cycles-gt-MAX_COUNT.true)
-
-pub returns : goal.returns
-unfolding has_room
-returns c = rw (le-leb _ _ c.if-before-cycles-gt-MAX_COUNT.false, le-leb _ _ c.if-rejected-cycles-gt-MAX_COUNT.false)
+returns-else-fits-2 c =
+    elim c.if-fits.branch [
+      | then-fits w ↦ rw (sym c.fits.ensures ∙ w.if-fits.true, sym w.fits-then-fits.ensures ∙ sym w.value-is ∙ c.if-fits-2.false, c.if-fits-2.false)
+      | else-fits w ↦ rw (sym c.fits.ensures ∙ w.if-fits.false, c.if-fits-2.false)
+    ]

@@ -1,50 +1,37 @@
 -- `first_broken::places::earliest` meets its contract: what is found from here on is what is found in all. Assumes nothing.
 use mathlib.Core.Path.{◌≡◌, sym, ap, ◌∙◌}
 use Prim.Native.Nat.{ℕ, ◌-◌, max}
-use native.Mathlib.Nat.{max-eq_left, max-eq_right}
 use native.Mathlib.Omega.{arith}
 use lib.ListN.{length}
 use Rattle.first_broken.specs.Places.{broken_from, broken_of}
 use Rattle.first_broken.proofs.PlaceLaws.{turn_end_lem, turn_flywheel, turn_handle, turn_next}
 use Rattle.first_broken.proofs.places.earliest.Goals as goal
-use Rattle.first_broken.proofs.places.earliest.Goals.{else-cycles-handle, then-cycles-handle}
 
 pub loop-n-init : goal.loop-n-init
 unfolding broken_of
 loop-n-init c =
     let x = c.args in
-    let e : c.if-cycles-handle.cycles ≡ max (length x.flywheel.now) (length x.handle.now) =
-    elim c.if-cycles-handle.branch [ then-cycles-handle w ↦ w.cycles-is ∙ sym (max-eq_right (omega (arith, w.if-cycles-handle.true))) | else-cycles-handle w ↦ w.cycles-is ∙ sym (max-eq_left w.if-cycles-handle.false) ] in
-    let all : c.if-cycles-handle.cycles - 0 ≡ max (length x.flywheel.now) (length x.handle.now) = omega (arith, e) in
-    (omega arith, e, ap (λ (k : ℕ). broken_from k 0 x.flywheel.now x.handle.now) all)
-
-pub is_rejected-requires : goal.is_rejected-requires
-is_rejected-requires c = tt
+    let all : max (length x.flywheel.now) (length x.handle.now) - 0 ≡ max (length x.flywheel.now) (length x.handle.now) = omega arith in
+    ap (λ (k : ℕ). broken_from k 0 x.flywheel.now x.handle.now) all
 
 pub returns-then-is_rejected : goal.returns-then-is_rejected
 returns-then-is_rejected c =
     let x = c.args in
-    sym (turn_flywheel x.flywheel.now x.handle.now _ c.loop-n.n c.loop-n-test.true (sym c.is_rejected.ensures ∙ c.if-is_rejected.true)) ∙ c.loop-n.invariant.2
-
-pub is_rejected-requires-in-loop-n : goal.is_rejected-requires-in-loop-n
-is_rejected-requires-in-loop-n c = tt
+    sym (turn_flywheel x.flywheel.now x.handle.now _ c.loop-n.n (omega (arith, c.max-n-end.ensures, c.loop-n-test.true)) (sym c.is_rejected.ensures ∙ c.if-is_rejected.true)) ∙ c.loop-n.invariant
 
 pub returns-then-is_rejected-2 : goal.returns-then-is_rejected-2
 returns-then-is_rejected-2 c =
     let x = c.args in
-    sym (turn_handle x.flywheel.now x.handle.now _ c.loop-n.n c.loop-n-test.true
-    (sym c.is_rejected.ensures ∙ c.if-is_rejected.false) (sym c.is_rejected-in-loop-n.ensures ∙ c.if-is_rejected-2.true)) ∙ c.loop-n.invariant.2
+    sym (turn_handle x.flywheel.now x.handle.now _ c.loop-n.n (omega (arith, c.max-n-end.ensures, c.loop-n-test.true))
+    (sym c.is_rejected.ensures ∙ c.if-is_rejected.false) (sym c.is_rejected-in-loop-n.ensures ∙ c.if-is_rejected-2.true)) ∙ c.loop-n.invariant
 
 pub loop-n-preserved : goal.loop-n-preserved
 loop-n-preserved c =
-    let x = c.args in (
-      omega arith,
-      c.loop-n.invariant.1,
-      sym (turn_next x.flywheel.now x.handle.now _ c.loop-n.n c.loop-n-test.true
-          (sym c.is_rejected.ensures ∙ c.if-is_rejected.false) (sym c.is_rejected-in-loop-n.ensures ∙ c.if-is_rejected-2.false)) ∙ c.loop-n.invariant.2,
-    )
+    let x = c.args in
+    sym (turn_next x.flywheel.now x.handle.now _ c.loop-n.n (omega (arith, c.max-n-end.ensures, c.loop-n-test.true))
+    (sym c.is_rejected.ensures ∙ c.if-is_rejected.false) (sym c.is_rejected-in-loop-n.ensures ∙ c.if-is_rejected-2.false)) ∙ c.loop-n.invariant
 
 pub returns : goal.returns
 returns c =
     let x = c.args in
-    sym (turn_end_lem x.flywheel.now x.handle.now _ c.loop-n.n c.loop-n-test.false) ∙ c.loop-n.invariant.2
+    sym (turn_end_lem x.flywheel.now x.handle.now _ c.loop-n.n (omega (arith, c.max-n-end.ensures, c.loop-n-test.false))) ∙ c.loop-n.invariant

@@ -1,6 +1,7 @@
 -- `name_word` meets its contract. Assumes nothing.
 use mathlib.Core.Path.{◌≡◌, ap, sym, ◌∙◌}
 use mathlib.Core.List.{List}
+use Rattle.std.specs.Prelude.{Option, Some, None}
 use Prim.Native.Nat.{ℕ, ◌+◌, ◌*◌, ◌-◌, ◌≤◌, ◌<◌}
 use native.Mathlib.Omega.{arith}
 use borrow.Author.Tests.{le-leb, lt-leb, ne_eqb}
@@ -8,7 +9,6 @@ use lib.ListN.{length, get_or, drop}
 use Rattle.text.specs.Numbers.{leading_digits}
 use Rattle.formula.specs.declared.Start.TheVariants.{Name}
 use Rattle.formula.specs.declared.names.Word.{Word}
-use Rattle.formula.specs.declared.names.Word.TheVariants.{Wrong, Formed}
 use Rattle.formula.specs.Classes.{start_of, run}
 use Rattle.formula.specs.Grammar.{index_of, right_of, name_of}
 use Rattle.formula.specs.Reading.{name_word, postfix}
@@ -28,7 +28,7 @@ module _ (s : List ℕ) (at end : ℕ) (ends : end ≡ at + run (drop at s)) whe
   unfolding name_word
   word = omega (arith, ends)
 
-  long : 15 < end - at → Wrong ≡ word_read (name_of s at (run (drop at s)))
+  long : 15 < end - at → None ≡ word_read (name_of s at (run (drop at s)))
   unfolding name_of
   long h = rw (lt-leb (run (drop at s)) 15 (omega (arith, ends)))
 
@@ -39,7 +39,7 @@ module _ (s : List ℕ) (at end : ℕ) (ends : end ≡ at + run (drop at s)) whe
     here : get_or s (at + run (drop at s)) 0 ≡ b
     here = sym (first ∙ ap (λ (x : ℕ). get_or s x 0) ends)
 
-    index : (r : Word) → b ≡ 91 → r ≡ word_read (index_of s at (run (drop at s)) (end + 1) (leading_digits (drop (end + 1) s))) → r ≡ word_read (name_of s at (run (drop at s)))
+    index : (r : Option Word) → b ≡ 91 → r ≡ word_read (index_of s at (run (drop at s)) (end + 1) (leading_digits (drop (end + 1) s))) → r ≡ word_read (name_of s at (run (drop at s)))
     unfolding name_of
     index r e h = rw (le-leb (run (drop at s)) 15 len, here ∙ e) (rw ends at h)
 
@@ -47,11 +47,11 @@ module _ (s : List ℕ) (at end : ℕ) (ends : end ≡ at + run (drop at s)) whe
       next : get_or s (at + run (drop at s) + 1) 0 ≡ b2
       next = sym (second ∙ ap (λ (x : ℕ). get_or s (x + 1) 0) ends)
 
-      two : (r : Word) → b ≡ 61 → b2 ≡ 61 → r ≡ word_read (right_of s at (run (drop at s)) (end + 2) (run (drop (end + 2) s))) → r ≡ word_read (name_of s at (run (drop at s)))
+      two : (r : Option Word) → b ≡ 61 → b2 ≡ 61 → r ≡ word_read (right_of s at (run (drop at s)) (end + 2) (run (drop (end + 2) s))) → r ≡ word_read (name_of s at (run (drop at s)))
       unfolding name_of
       two r e e2 h = rw (le-leb (run (drop at s)) 15 len, here ∙ e, next ∙ e2) (rw ends at h)
 
-    bare : (b ≡ 91 → ⊥) → (b ≡ 61 → get_or s (end + 1) 0 ≡ 61 → ⊥) → Formed end (at * 16 + (end - at)) ≡ word_read (name_of s at (run (drop at s)))
+    bare : (b ≡ 91 → ⊥) → (b ≡ 61 → get_or s (end + 1) 0 ≡ 61 → ⊥) → Some (record { next = end; word = at * 16 + (end - at) }) ≡ word_read (name_of s at (run (drop at s)))
     unfolding name_of postfix
     bare n91 n61 =
         let next : get_or s (at + run (drop at s) + 1) 0 ≡ get_or s (end + 1) 0 = sym (ap (λ (x : ℕ). get_or s (x + 1) 0) ends) in

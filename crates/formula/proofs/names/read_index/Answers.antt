@@ -3,10 +3,10 @@
 use mathlib.Core.Path.{◌≡◌, refl, sym, ap, ◌∙◌}
 use mathlib.Core.List.{List}
 use mathlib.Core.Bool.{Bool, true, false, not, ◌&&◌, ◌||◌}
+use Rattle.std.specs.Prelude.{Some, None}
 use Prim.Native.Nat.{ℕ, ◌+◌, ◌-◌, ◌*◌, min}
 use native.Mathlib.Omega.{arith}
 use native.Mathlib.Decide.{dec_lt}
-use borrow.Author.Tests.{not-true, not-false}
 use lib.Dec.{leb, eqb}
 use lib.ListN.{length, get_or, drop}
 use Rattle.text.specs.Numbers.{is_digit, leading_digits, value_from}
@@ -32,49 +32,57 @@ go_on {s} {at} {value} {p} r h =
     }
 
 -- no digit more
-ended : {s : List ℕ} {at value p first : ℕ} {formed : Bool} → Reading s at value p → is_digit (get_or s p 0) ≡ false → first ≡ get_or s at 0 →
-    formed ≡ (leb 1 (p - at) && (eqb (p - at) 1 || not (eqb first 48))) → record { formed = formed; value = value; next = p } ≡ index_at s at
-unfolding is_index
-ended {s} {at} {value} {p} r h f a =
-    let none = leading_stop s p h in
-    let count : length (leading_digits (drop at s)) ≡ p - at = omega (arith, r.count, ap length none) in
-    let left : min (value_from 0 (leading_digits (drop at s))) 16 ≡ min value 16 = r.sum ∙ ap (λ (l : List ℕ). min (value_from value l) 16) none ∙ ap (λ (x : ℕ). min x 16) (value_stop value) in
-    let sum : min (value_from 0 (leading_digits (drop at s))) 16 ≡ value = omega (arith, left, r.small) in
-    let next : at + (p - at) ≡ p = omega (arith, r.from) in
-    elim (dec_lt 0 (p - at)) [
-      | yes l ↦ rw (a, f, count, leading_first s at (omega arith), sum, next)
-      | no l ↦ let z : p - at ≡ 0 = omega arith in rw (a, count, sum, next, z)
-    ]
+module _ {s : List ℕ} {at value p : ℕ} (r : Reading s at value p) (h : is_digit (get_or s p 0) ≡ false) where
+  count : length (leading_digits (drop at s)) ≡ p - at
+  count = omega (arith, r.count, ap length (leading_stop s p h))
+
+  left : min (value_from 0 (leading_digits (drop at s))) 16 ≡ min value 16
+  left = r.sum ∙ ap (λ (l : List ℕ). min (value_from value l) 16) (leading_stop s p h) ∙ ap (λ (x : ℕ). min x 16) (value_stop value)
+
+  sum : min (value_from 0 (leading_digits (drop at s))) 16 ≡ value
+  sum = omega (arith, left, r.small)
+
+  next : at + (p - at) ≡ p
+  next = omega (arith, r.from)
+
+  module _ {first : ℕ} {formed : Bool} (f : first ≡ get_or s at 0) (a : formed ≡ (leb 1 (p - at) && (eqb (p - at) 1 || not (eqb first 48)))) where
+    judged : formed ≡ is_index (leading_digits (drop at s))
+    unfolding is_index
+    judged =
+        elim (dec_lt 0 (p - at)) [
+          | yes l ↦ rw (a, f, count, leading_first s at (omega arith))
+          | no l ↦ let z : p - at ≡ 0 = omega arith in rw (a, count, z)
+        ]
+
+    ended : formed ≡ true → Some (record { value = value; next = p }) ≡ index_at s at
+    ended t = rw (sym judged ∙ t, count, sum, next)
+
+    none : formed ≡ false → None ≡ index_at s at
+    none t = rw (sym judged ∙ t)
 
 seen : {b d : ℕ} {r t : Bool} → b ≡ d → r ≡ is_digit b → r ≡ t → is_digit d ≡ t
 seen e f g = sym (ap is_digit e) ∙ sym f ∙ g
 
-pub loop-formed-init : goal.loop-formed-init
-loop-formed-init c = begin _ _
+pub loop-value-init : goal.loop-value-init
+loop-value-init c = begin _ _
 
-pub overflow_sub-p : goal.overflow_sub-p
-overflow_sub-p c = omega (arith, c.loop-formed.invariant.from)
+pub overflow_add-end : goal.overflow_add-end
+overflow_add-end c = omega (arith, digit-inside c.args.s.now c.loop-value.end (seen c.byte_at.ensures c.is_digit.ensures c.loop-value-test.true))
 
-pub returns-then-not-is_digit : goal.returns-then-not-is_digit
-returns-then-not-is_digit c =
-    let l = c.loop-formed in
-    let stop = seen c.byte_at-b.ensures c.is_digit.ensures (not-true _ c.if-not-is_digit.true-raw) in
-    ended l.invariant stop c.byte_at.ensures c.is_index-formed.ensures
+pub loop-value-smaller : goal.loop-value-smaller
+loop-value-smaller c = omega (arith, digit-inside c.args.s.now c.loop-value.end (seen c.byte_at.ensures c.is_digit.ensures c.loop-value-test.true))
 
-pub with_digit-value-requires : goal.with_digit-value-requires
-with_digit-value-requires c = (c.loop-formed.invariant.small, sym c.is_digit.ensures ∙ not-false _ c.if-not-is_digit.false-raw)
+pub loop-value-preserved : goal.loop-value-preserved
+loop-value-preserved c =
+    let digit = seen c.byte_at.ensures c.is_digit.ensures c.loop-value-test.true in
+    rw (c.with_digit-value.ensures, c.byte_at-in-loop-value.ensures) (go_on c.loop-value.invariant digit)
 
-pub overflow_add-p : goal.overflow_add-p
-overflow_add-p c =
-    let digit = seen c.byte_at-b.ensures c.is_digit.ensures (not-false _ c.if-not-is_digit.false-raw) in
-    omega (arith, digit-inside c.args.s.now c.loop-formed.p digit)
+pub returns-then-is_index : goal.returns-then-is_index
+returns-then-is_index c =
+    let stop = seen c.byte_at.ensures c.is_digit.ensures c.loop-value-test.false in
+    ended c.loop-value.invariant stop c.byte_at-2.ensures c.is_index.ensures c.if-is_index.true
 
-pub loop-formed-smaller : goal.loop-formed-smaller
-loop-formed-smaller c =
-    let digit = seen c.byte_at-b.ensures c.is_digit.ensures (not-false _ c.if-not-is_digit.false-raw) in
-    omega (arith, digit-inside c.args.s.now c.loop-formed.p digit)
-
-pub loop-formed-preserved : goal.loop-formed-preserved
-loop-formed-preserved c =
-    let digit = seen c.byte_at-b.ensures c.is_digit.ensures (not-false _ c.if-not-is_digit.false-raw) in
-    rw (c.with_digit-value.ensures, c.byte_at-b.ensures) (go_on c.loop-formed.invariant digit)
+pub returns-else-is_index : goal.returns-else-is_index
+returns-else-is_index c =
+    let stop = seen c.byte_at.ensures c.is_digit.ensures c.loop-value-test.false in
+    none c.loop-value.invariant stop c.byte_at-2.ensures c.is_index.ensures c.if-is_index.false

@@ -13,8 +13,8 @@ pub record Reading (s : List ℕ) (at value p : ℕ) : Type 0 where
   pub count : length (leading_digits (drop at s)) ≡ (p - at) + length (leading_digits (drop p s))
   pub sum : min (value_from 0 (leading_digits (drop at s))) 16 ≡ min (value_from value (leading_digits (drop p s))) 16
 
-abbrev pub invariant-loop-formed : goal.invariant-loop-formed
-invariant-loop-formed l = Reading l.s l.at l.value l.p
+abbrev pub invariant-loop-value : goal.invariant-loop-value
+invariant-loop-value l = Reading l.s l.at l.value l.end
 
-abbrev pub decreases-loop-formed : goal.decreases-loop-formed
-decreases-loop-formed l = length l.s - l.p
+abbrev pub decreases-loop-value : goal.decreases-loop-value
+decreases-loop-value l = length l.s - l.end

@@ -2,7 +2,6 @@
 -- for `expression`, which begins with an operand at its own place. Assumes nothing.
 use Prim.Native.Nat.{◌+◌, ◌*◌, ◌-◌}
 use lib.ListN.{length}
-use Rattle.formula.specs.Private.Readers.{left_over}
 use Rattle.formula.proofs.readers.+expression_operand_rest.Given as goal
 
 abbrev pub decreases-expression : goal.decreases-expression
@@ -12,4 +11,4 @@ abbrev pub decreases-operand : goal.decreases-operand
 decreases-operand l = 2 * (length l.s.now - l.at)
 
 abbrev pub decreases-rest : goal.decreases-rest
-decreases-rest l = 2 * left_over (length l.s.now) l.left
+decreases-rest l = 2 * (length l.s.now - l.left.next)

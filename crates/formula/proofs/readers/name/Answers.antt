@@ -2,6 +2,7 @@
 use mathlib.Core.Path.{◌≡◌, refl, ap, sym, subst, ◌∙◌}
 use mathlib.Core.Bool.{Bool, true, false, ◌&&◌}
 use mathlib.Core.List.{List, [], ◌∷◌}
+use Rattle.std.specs.Prelude.{Some, None}
 use Prim.Native.Nat.{ℕ, ◌+◌, ◌≤◌, ◌<◌}
 use native.Mathlib.Omega.{arith}
 use lib.Dec.{leb, eqb}
@@ -10,14 +11,13 @@ use lib.Seq.{sets}
 use Rattle.text.specs.Numbers.{leading_digits, value_from}
 use Rattle.formula.specs.declared.Start.TheVariants.{Name}
 use Rattle.formula.specs.declared.names.Word.{Word}
-use Rattle.formula.specs.declared.names.Word.TheVariants.{Wrong, Formed}
-use Rattle.formula.specs.declared.readers.Read.TheVariants.{Failed, Done}
+use Rattle.formula.specs.declared.readers.Read.{Read}
 use Rattle.formula.specs.Classes.{pick, class_of, is_letter, start_of, run}
 use Rattle.formula.specs.Grammar.{Tree, name, bit_of, alike, Got, failed, got, is_index, index_of, right_of, name_of, depth_of}
 use Rattle.formula.specs.Reading.{postfix}
-use Rattle.formula.specs.Private.Readers.{Bounds, Reads, word_read}
+use Rattle.formula.specs.Private.Readers.{Reads, word_read}
 use Rattle.formula.proofs.GrammarSound.{Gives, name-inside}
-use Rattle.formula.proofs.Steps.{starts}
+use Rattle.formula.proofs.Steps.{starts, reads-none}
 use Rattle.formula.proofs.readers.name.Goals as goal
 
 -- one word, and no depth
@@ -52,37 +52,61 @@ name-one s at n = either (leb n 15) (pick (eqb (get_or s (at + n) 0) 91) index o
     none : Gives One others
     none = either (eqb (get_or s (at + n) 0) 61 && eqb (get_or s (at + n + 1) 0) 61) right (got (name at n) (at + n)) (right-one s at n (at + n + 2) _) (refl, refl)
 
-module _ (s out : List ℕ) (at n : ℕ) (letter : start_of (get_or s at 0) ≡ Name) (found : Word) (is : found ≡ word_read (name_of s at (run (drop at s)))) where
-  none : found ≡ Wrong → Reads out n out Failed (name_of s at (run (drop at s)))
-  unfolding Reads
-  none h = go (name_of s at (run (drop at s))) is
-    where
-      go : (g : Got) → found ≡ word_read g → Reads out n out Failed g
-      go failed x = refl
-      go (got e to) x = let z : ◌≡◌ {A = ℕ} 0 1 = cc (h, x) in absurd (omega arith)
+module _ (s out : List ℕ) (at n : ℕ) (letter : start_of (get_or s at 0) ≡ Name) where
+  here : Got
+  here = name_of s at (run (drop at s))
 
-  known : (next word : ℕ) → found ≡ Formed next word →
-      (Bounds (length s) at n (Done next (n + 1) 0)) × (Reads out n (set out n word) (Done next (n + 1) 0) (name_of s at (run (drop at s))))
-  unfolding Reads
-  known next word h = go (name_of s at (run (drop at s))) refl is
+  none : None ≡ word_read here → Reads out n out None (name_of s at (run (drop at s)))
+  unfolding here
+  none is = reads-none out n out here (go here is)
     where
-      go : (g : Got) → name_of s at (run (drop at s)) ≡ g → found ≡ word_read g → (Bounds (length s) at n (Done next (n + 1) 0)) × (Reads out n (set out n word) (Done next (n + 1) 0) g)
-      go failed y x = let z : ◌≡◌ {A = ℕ} 0 1 = cc (h, x) in absurd (omega arith)
-      go (got e to) y x =
-          let one : One e to = subst (Gives One) y (name-one s at (run (drop at s))) in
-          let t : to ≡ next = cc (h, x) in
-          let w : word ≡ get_or (postfix e) 0 0 = cc (h, x) in
-          let i : (at < to) × (to ≤ length s) = name-inside s at e to letter y in
-          let c : n + 1 ≡ n + length (postfix e) = omega (arith, ap length one.0) in
-          let d : Done next (n + 1) 0 ≡ Done to (n + length (postfix e)) (depth_of e) = cc (t, c, one.1) in
-          (omega (arith, i, t), (d, ap (set out n) w ∙ sym (ap (sets out n) one.0)))
+      go : (g : Got) → None ≡ word_read g → g ≡ failed
+      go failed x = refl
+      go (got e to) x = let z : ◌≡◌ {A = ℕ} 0 1 = cc x in absurd (omega arith)
+
+  module _ (found : Word) (is : Some found ≡ word_read here) where
+    one_read : Read
+    one_read = record { next = found.next; count = n + 1; depth = 0 }
+
+    -- what a name's word tells
+    record Known : Type 0 where
+      pub more : at < found.next
+      pub inside : found.next ≤ length s
+      pub reads : Reads out n (set out n found.word) (Some one_read) here
+
+    known : Known
+    unfolding Reads one_read here
+    known = go here refl is
+      where
+        go : (g : Got) → here ≡ g → Some found ≡ word_read g → Known
+        go failed y x = let z : ◌≡◌ {A = ℕ} 0 1 = cc x in absurd (omega arith)
+        go (got e to) y x =
+            let one : One e to = subst (Gives One) y (name-one s at (run (drop at s))) in
+            let f : found ≡ record { next = to; word = get_or (postfix e) 0 0 } = cc x in
+            let t : found.next ≡ to = ap (λ (w : Word). w.next) f in
+            let w : found.word ≡ get_or (postfix e) 0 0 = ap (λ (w : Word). w.word) f in
+            let i : (at < to) × (to ≤ length s) = name-inside s at e to letter y in
+            let c : n + 1 ≡ n + length (postfix e) = omega (arith, ap length one.0) in
+            let d : Some one_read ≡ Some (record { next = to; count = n + length (postfix e); depth = depth_of e }) = rw (t, c, one.1) in
+            record {
+              more = omega (arith, i, t);
+              inside = omega (arith, i, t);
+              reads = subst (Reads out n (set out n found.word) (Some one_read)) (sym y) (d, ap (set out n) w ∙ sym (ap (sets out n) one.0));
+            }
+
+pub returns-in_err-found-clause-reads : goal.returns-in_err-found-clause-reads
+unfolding here
+returns-in_err-found-clause-reads c =
+    let a = c.args in
+    rw c.from_residual.ensures (none a.s.now a.out.now a.at a.n c.requires.1 c.in_err-found.ensures)
 
 pub bounds-out-n : goal.bounds-out-n
 bounds-out-n c =
     omega (arith, starts c.args.s.now c.args.at Name c.requires.1 (omega arith), c.requires.0)
 
-pub returns-in-Wrong : goal.returns-in-Wrong
-returns-in-Wrong c = record { bounds = tt; reads = none c.args.s.now c.args.out.now c.args.at c.args.n c.requires.1 _ c.name_word-found.ensures c.in-Wrong.is }
-
-pub returns-in-Formed : goal.returns-in-Formed
-returns-in-Formed c = let p = known c.args.s.now c.args.out.now c.args.at c.args.n c.requires.1 _ c.name_word-found.ensures _ _ c.in-Formed.is in record { bounds = p.0; reads = p.1 }
+pub returns : goal.returns
+unfolding here one_read
+returns c =
+    let a = c.args in
+    let k = known a.s.now a.out.now a.at a.n c.requires.1 c.in_ok-found.found c.in_ok-found.ensures in
+    record { bounds = omega (arith, k.more, k.inside); reads = k.reads }

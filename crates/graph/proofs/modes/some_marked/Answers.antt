@@ -1,23 +1,16 @@
--- `graph::modes::some_marked` meets its contract: no edge before the index is marked. Assumes nothing.
-use mathlib.Core.Path.{◌≡◌, refl, sym}
-use native.Mathlib.Omega.{arith}
-use Rattle.graph.proofs.ModeLaws.{marked-none, marked_next, marked-here}
+-- `graph::modes::some_marked` meets its contract. Assumes nothing.
+use mathlib.Core.Path.{◌≡◌}
+use mathlib.Core.Bool.{true, false}
+use borrow.Author.Rules.{rules}
+use borrow.Author.Tests.{tests}
+use lib.ListN.{take}
+use Rattle.std.proofs.lemmas.Iterator.{YieldsList-from_slice, cases_from_any}
+use Rattle.graph.specs.declared.Arc.{Arc}
+use Rattle.graph.proofs.SearchLaws.{any_by}
 use Rattle.graph.proofs.modes.some_marked.Goals as goal
-
-pub loop-i-init : goal.loop-i-init
-loop-i-init c = (omega arith, marked-none c.args.g.arcs)
-
-pub returns-then-a : goal.returns-then-a
-returns-then-a c =
-    let g = c.args.g in
-    marked-here g.arcs c.loop-i.i c.loop-i.invariant.1 g.edges c.loop-i-test.true refl c.if-a.true
-
-pub loop-i-preserved : goal.loop-i-preserved
-loop-i-preserved c =
-    let g = c.args.g in
-    (omega arith, marked_next g.arcs c.loop-i.i c.loop-i.invariant.1 refl c.if-a.false)
 
 pub returns : goal.returns
 returns c =
-    let e : c.loop-i.i ≡ c.args.g.edges = omega (arith, c.loop-i.invariant.0, c.loop-i-test.false) in
-    sym (rw e at c.loop-i.invariant.1)
+    let g = c.args.g in
+    any_by (λ (a : Arc). a.terminal) (take g.edges g.arcs) c.any.result
+    (cases_from_any _ _ _ (λ a. a.terminal ≡ true) (λ a. a.terminal ≡ false) c.any.ensures.ran (YieldsList-from_slice (take g.edges g.arcs) cc) (λ x q k. search (rules, tests)) (λ x q k. search (rules, tests)))

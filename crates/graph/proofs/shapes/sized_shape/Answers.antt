@@ -1,5 +1,6 @@
 -- `graph::shapes::sized_shape` meets its contract. Assumes nothing.
 use mathlib.Core.Path.{sym, ◌∙◌}
+use Rattle.graph.proofs.PieceLaws.{same_told}
 use Rattle.graph.proofs.RecordLaws.{sized-not, sized-zero, sized_signal, sized-constant, sized-none, width_fits, name-short}
 use Rattle.graph.proofs.shapes.sized_shape.Goals as goal
 
@@ -8,20 +9,20 @@ returns-then-width-eq0 c =
     let a = c.args in
     (sized-zero a.line.now a.at a.length a.width c.piece-kind.ensures c.part.ensures (sym c.is_name.ensures ∙ c.if-is_name.true) c.if-width-eq0.true, tt)
 
-pub returns-then-is_byte : goal.returns-then-is_byte
-returns-then-is_byte c =
+pub returns-then-eq : goal.returns-then-eq
+returns-then-eq c =
     let a = c.args in
-    (sized_signal a.line.now a.at a.length a.width c.piece-kind.ensures c.part.ensures (sym c.is_name.ensures ∙ c.if-is_name.true) c.if-width-eq0.false (sym c.is_byte.ensures ∙ c.if-is_byte.true), (c.requires.0, width_fits c.if-width-eq0.false c.requires.1, name-short a.line.now a.at a.length c.requires.0 c.part.ensures (sym c.is_name.ensures ∙ c.if-is_name.true)))
+    (sized_signal a.line.now a.at a.length a.width c.piece-kind.ensures c.part.ensures (sym c.is_name.ensures ∙ c.if-is_name.true) c.if-width-eq0.false (same_told c.piece-kind.result.now c.as_slice.result.now c.eq.ensures c.as_slice.ensures c.if-eq.true), (c.requires.0, width_fits c.if-width-eq0.false c.requires.1, name-short a.line.now a.at a.length c.requires.0 c.part.ensures (sym c.is_name.ensures ∙ c.if-is_name.true)))
 
-pub returns-then-is_byte-2 : goal.returns-then-is_byte-2
-returns-then-is_byte-2 c =
+pub returns-then-eq-2 : goal.returns-then-eq-2
+returns-then-eq-2 c =
     let a = c.args in
-    (sized-constant a.line.now a.at a.length a.width c.piece-kind.ensures c.part.ensures (sym c.is_name.ensures ∙ c.if-is_name.true) c.if-width-eq0.false (sym c.is_byte.ensures ∙ c.if-is_byte.false) (sym c.is_byte-then-is_name.ensures ∙ c.if-is_byte-2.true), (c.requires.0, width_fits c.if-width-eq0.false c.requires.1, name-short a.line.now a.at a.length c.requires.0 c.part.ensures (sym c.is_name.ensures ∙ c.if-is_name.true)))
+    (sized-constant a.line.now a.at a.length a.width c.piece-kind.ensures c.part.ensures (sym c.is_name.ensures ∙ c.if-is_name.true) c.if-width-eq0.false (same_told c.piece-kind.result.now c.as_slice.result.now c.eq.ensures c.as_slice.ensures c.if-eq.false) (same_told c.piece-kind.result.now c.as_slice-then-is_name.result.now c.eq-then-is_name.ensures c.as_slice-then-is_name.ensures c.if-eq-2.true), (c.requires.0, width_fits c.if-width-eq0.false c.requires.1, name-short a.line.now a.at a.length c.requires.0 c.part.ensures (sym c.is_name.ensures ∙ c.if-is_name.true)))
 
-pub returns-else-is_byte-2 : goal.returns-else-is_byte-2
-returns-else-is_byte-2 c =
+pub returns-else-eq-2 : goal.returns-else-eq-2
+returns-else-eq-2 c =
     let a = c.args in
-    (sized-none a.line.now a.at a.length a.width c.piece-kind.ensures c.part.ensures (sym c.is_name.ensures ∙ c.if-is_name.true) c.if-width-eq0.false (sym c.is_byte.ensures ∙ c.if-is_byte.false) (sym c.is_byte-then-is_name.ensures ∙ c.if-is_byte-2.false), tt)
+    (sized-none a.line.now a.at a.length a.width c.piece-kind.ensures c.part.ensures (sym c.is_name.ensures ∙ c.if-is_name.true) c.if-width-eq0.false (same_told c.piece-kind.result.now c.as_slice.result.now c.eq.ensures c.as_slice.ensures c.if-eq.false) (same_told c.piece-kind.result.now c.as_slice-then-is_name.result.now c.eq-then-is_name.ensures c.as_slice-then-is_name.ensures c.if-eq-2.false), tt)
 
 pub returns-else-is_name : goal.returns-else-is_name
 returns-else-is_name c =

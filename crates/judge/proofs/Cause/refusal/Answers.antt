@@ -1,5 +1,4 @@
 -- `Cause::refusal` meets its contract. Assumes nothing.
-use borrow.Author.Rules.{rules}
 use Rattle.judge.specs.Judge.{refusal_of}
 use Rattle.judge.proofs.Cause.refusal.Goals as goal
 

@@ -1,36 +1,20 @@
--- `ludo_dearest_graph` meets its contract: `write` of dearest_graph answers what `write_of` gives, and each case of the answer
--- fixes code and result. Assumes nothing.
-use mathlib.Core.Path.{ap, ◌∙◌}
-use Rattle.ludopoplar.specs.Codes.{code_of}
+-- `ludo_dearest_graph` meets its contract: `write` of dearest_graph answers what `write_of` gives, which fixes code and result.
+-- Assumes nothing.
+use Rattle.std.proofs.lemmas.Result.{IfOk-at_ok}
+use mathlib.Core.Path.{refl}
+use Rattle.dearest_graph.specs.Write.{refusal_of}
 use Rattle.ludopoplar.specs.Graphs.{dearest_as, dearest_graph_call}
-use Rattle.ludopoplar.proofs.NumberLaws.{numbered, not-accepted}
+use Rattle.ludopoplar.proofs.CountLaws.{ends, accepts}
+use Rattle.ludopoplar.proofs.NumberLaws.{numbered}
 use Rattle.ludopoplar.proofs.graphs.ludo_dearest_graph.Goals as goal
 
-pub write-written-requires : goal.write-written-requires
-write-written-requires c = tt
-
-pub enum_known-written : goal.enum_known-written
-enum_known-written c = c.in-Bytes.in-Bytes-own.keys1
-
-pub enum_known-written-in-Refused-1 : goal.enum_known-written-in-Refused-1
-enum_known-written-in-Refused-1 c = c.in-Refused.in-Refused-own.keys2
-
-pub refusal-requires : goal.refusal-requires
-refusal-requires c = tt
-
-pub code-requires : goal.code-requires
-code-requires c = tt
-
-pub shape_of-text-in-Bytes : goal.shape_of-text-in-Bytes
-shape_of-text-in-Bytes c = c.write-written.auto.text
-
-pub returns-in-Bytes : goal.returns-in-Bytes
+pub returns : goal.returns
 unfolding dearest_graph_call dearest_as
-returns-in-Bytes c = record { length_after = rw (← c.write-written.ensures.text_after, c.in-Bytes.is); dearest = λ _. c.write-written.ensures.dearest _ c.in-Bytes.is }
-
-pub shape_of-text-in-Refused : goal.shape_of-text-in-Refused
-shape_of-text-in-Refused c = c.write-written.auto.text
-
-pub returns-in-Refused : goal.returns-in-Refused
-unfolding dearest_graph_call dearest_as
-returns-in-Refused c = record { length_after = rw (← c.write-written.ensures.text_after, c.in-Refused.is, c.code.ensures, c.refusal.ensures); dearest = not-accepted _ _ (numbered.dearest_numbered _) (c.code.ensures ∙ ap code_of c.refusal.ensures) }
+returns c =
+    let n = c.counted.ensures in
+    let m = c.map_err-written.ensures.cases in
+    let e = ends refusal_of _ _ _ _ n.code n.count dearest_as (λ n b. refl) (λ cause b. refl) c.write.result m c.write.new.text in
+    record {
+      length_after = rw (← c.write.ensures.text_after, e);
+      dearest = λ z. IfOk-at_ok _ (accepts refusal_of _ _ _ _ n.code n.count numbered.dearest_numbered z c.write.result m) c.write.ensures.dearest;
+    }

@@ -2,7 +2,7 @@
 use mathlib.Core.Path.{◌≡◌, sym, ◌∙◌}
 use mathlib.Core.Bool.{Bool, true, ◌&&◌}
 use mathlib.Core.List.{List}
-use Prim.Native.Nat.{ℕ}
+use Prim.Native.Nat.{ℕ, ◌<◌, ◌≤◌}
 use native.Mathlib.Omega.{arith}
 use lib.Dec.{leb}
 use lib.ListN.{length}
@@ -13,6 +13,7 @@ use Rattle.netlist.specs.Valid.{header_ok, latch_ok, free_count, output_ok, is_o
 use Rattle.netlist.proofs.LiteralLaws.{made}
 use Rattle.netlist.proofs.ValidLaws.{header}
 use borrow.Author.Rules.{rules}
+use Rattle.netlist.specs.declared.header.Header.{Header}
 use Rattle.netlist.proofs.valid.outline.Goals as goal
 
 -- what is left to test where the header is right
@@ -31,58 +32,73 @@ split : (net : List ℕ) → leb 5 (length net) ≡ true
 unfolding is_outline
 split net e1 e2 = rw (e1, e2)
 
+-- what is said of the five numbers as a header is said of those of the buffer
+limits : (h : Header) (net : List ℕ) {b : Bool} → h.maximum ≡ maximum net → h.inputs ≡ input_count net → h.latches ≡ latch_count net
+    → h.outputs ≡ output_count net → h.gates ≡ gate_count net → header_ok h.maximum h.inputs h.latches h.outputs h.gates ≡ b
+    → header_ok (maximum net) (input_count net) (latch_count net) (output_count net) (gate_count net) ≡ b
+limits h net m i l o a e = rw (← m, ← i, ← l, ← o, ← a) e
+
 pub returns-then-net-lt-HEADER : goal.returns-then-net-lt-HEADER
 unfolding is_outline
 returns-then-net-lt-HEADER c = rw (lt-leb 5 _ c.if-net-lt-HEADER.true)
 
-pub returns-then-not-header_ok : goal.returns-then-not-header_ok
+pub returns-then-not-is_within_limits : goal.returns-then-not-is_within_limits
 unfolding is_outline
-returns-then-not-header_ok c = let e = sym c.header_ok.ensures ∙ not-true _ c.if-not-header_ok.true-raw in rw ((le-leb 5 _ c.if-net-lt-HEADER.false), e)
+returns-then-not-is_within_limits c =
+    let h = c.of-header.ensures in
+    let e = limits c.of-header.result c.args.net.now h.maximum h.inputs h.latches h.outputs h.gates (sym c.is_within_limits.ensures ∙ not-true _ c.if-not-is_within_limits.true-raw) in
+    rw (le-leb 5 _ c.if-net-lt-HEADER.false, e)
 
-pub overflow_cast-outputs : goal.overflow_cast-outputs
-overflow_cast-outputs c = omega (arith, (header _ _ _ _ _ ((sym c.header_ok.ensures ∙ not-false _ c.if-not-header_ok.false-raw))))
-
-pub overflow_mul-outputs : goal.overflow_mul-outputs
-overflow_mul-outputs c = omega (arith, (header _ _ _ _ _ ((sym c.header_ok.ensures ∙ not-false _ c.if-not-header_ok.false-raw))))
-
-pub overflow_add-outputs : goal.overflow_add-outputs
-overflow_add-outputs c = omega (arith, (header _ _ _ _ _ ((sym c.header_ok.ensures ∙ not-false _ c.if-not-header_ok.false-raw))))
-
-pub overflow_cast-operands : goal.overflow_cast-operands
-overflow_cast-operands c = omega (arith, (header _ _ _ _ _ ((sym c.header_ok.ensures ∙ not-false _ c.if-not-header_ok.false-raw))))
-
-pub overflow_add-operands : goal.overflow_add-operands
-overflow_add-operands c = omega (arith, (header _ _ _ _ _ ((sym c.header_ok.ensures ∙ not-false _ c.if-not-header_ok.false-raw))))
-
-pub overflow_cast-a : goal.overflow_cast-a
-overflow_cast-a c = omega (arith, (header _ _ _ _ _ ((sym c.header_ok.ensures ∙ not-false _ c.if-not-header_ok.false-raw))))
-
-pub overflow_mul-a : goal.overflow_mul-a
-overflow_mul-a c = omega (arith, (header _ _ _ _ _ ((sym c.header_ok.ensures ∙ not-false _ c.if-not-header_ok.false-raw))))
-
-pub overflow_add-operands-2 : goal.overflow_add-operands-2
-overflow_add-operands-2 c = omega (arith, (header _ _ _ _ _ ((sym c.header_ok.ensures ∙ not-false _ c.if-not-header_ok.false-raw))))
-
-pub returns-then-net-operands : goal.returns-then-net-operands
-returns-then-net-operands c = sym ((split (c.args.net.now) ((le-leb 5 _ c.if-net-lt-HEADER.false)) ((sym c.header_ok.ensures ∙ not-false _ c.if-not-header_ok.false-raw))) ∙ rw (lt-leb _ _ c.if-net-operands.true))
+pub returns-then-net-size : goal.returns-then-net-size
+returns-then-net-size c =
+    let h = c.of-header.ensures in
+    let e = limits c.of-header.result c.args.net.now h.maximum h.inputs h.latches h.outputs h.gates (sym c.is_within_limits.ensures ∙ not-false _ c.if-not-is_within_limits.false-raw) in
+    let short : length c.args.net.now < size_of c.args.net.now = omega (arith, h.latches, h.outputs, h.gates, c.size.ensures, c.if-net-size.true) in
+    sym (split c.args.net.now (le-leb 5 _ c.if-net-lt-HEADER.false) e ∙ rw (lt-leb _ _ short))
 
 pub outputs_ok-requires : goal.outputs_ok-requires
-outputs_ok-requires c = let e = (made _ true (omega (arith, (header _ _ _ _ _ ((sym c.header_ok.ensures ∙ not-false _ c.if-not-header_ok.false-raw))))) c.literal-last.ensures) in search rules
+outputs_ok-requires c =
+    let h = c.of-header.ensures in
+    let e = limits c.of-header.result c.args.net.now h.maximum h.inputs h.latches h.outputs h.gates (sym c.is_within_limits.ensures ∙ not-false _ c.if-not-is_within_limits.false-raw) in
+    let v = header _ _ _ _ _ e in
+    let last = made _ true (omega (arith, v, h.maximum)) c.literal-last.ensures in
+    let long : size_of c.args.net.now ≤ length c.args.net.now = omega (arith, h.latches, h.outputs, h.gates, c.size.ensures, c.if-net-size.false) in
+    record {
+      at_value = (omega (arith, c.output_at.ensures, h.latches), rw (← h.maximum) last);
+      count_in_bounds = omega (arith, h.latches, h.outputs, c.output_at.ensures, long);
+    }
 
 pub returns-then-not-outputs_ok : goal.returns-then-not-outputs_ok
 returns-then-not-outputs_ok c =
-    let e = sym c.outputs_ok.ensures ∙ not-true _ c.if-not-outputs_ok.true-raw in
-    sym ((split (c.args.net.now) ((le-leb 5 _ c.if-net-lt-HEADER.false)) ((sym c.header_ok.ensures ∙ not-false _ c.if-not-header_ok.false-raw))) ∙ rw ((le-leb _ _ c.if-net-operands.false), e))
+    let h = c.of-header.ensures in
+    let e = limits c.of-header.result c.args.net.now h.maximum h.inputs h.latches h.outputs h.gates (sym c.is_within_limits.ensures ∙ not-false _ c.if-not-is_within_limits.false-raw) in
+    let long : size_of c.args.net.now ≤ length c.args.net.now = omega (arith, h.latches, h.outputs, h.gates, c.size.ensures, c.if-net-size.false) in
+    let o = rw h.outputs at (sym c.outputs_ok.ensures ∙ not-true _ c.if-not-outputs_ok.true-raw) in
+    sym (split c.args.net.now (le-leb 5 _ c.if-net-lt-HEADER.false) e ∙ rw (le-leb _ _ long, o))
 
-pub overflow_add-i : goal.overflow_add-i
-overflow_add-i c = omega (arith, (header _ _ _ _ _ ((sym c.header_ok.ensures ∙ not-false _ c.if-not-header_ok.false-raw))))
+pub overflow_add-header : goal.overflow_add-header
+overflow_add-header c =
+    let h = c.of-header.ensures in
+    let e = limits c.of-header.result c.args.net.now h.maximum h.inputs h.latches h.outputs h.gates (sym c.is_within_limits.ensures ∙ not-false _ c.if-not-is_within_limits.false-raw) in
+    let v = header _ _ _ _ _ e in
+    omega (arith, v, h.inputs)
 
 pub latches_ok-requires : goal.latches_ok-requires
 latches_ok-requires c =
-    let h = (header _ _ _ _ _ ((sym c.header_ok.ensures ∙ not-false _ c.if-not-header_ok.false-raw))) in
-    let e = (made _ true (omega (arith, (header _ _ _ _ _ ((sym c.header_ok.ensures ∙ not-false _ c.if-not-header_ok.false-raw))))) c.literal-last.ensures) in
-    search rules
+    let h = c.of-header.ensures in
+    let e = limits c.of-header.result c.args.net.now h.maximum h.inputs h.latches h.outputs h.gates (sym c.is_within_limits.ensures ∙ not-false _ c.if-not-is_within_limits.false-raw) in
+    let v = header _ _ _ _ _ e in
+    let last = made _ true (omega (arith, v, h.maximum)) c.literal-last.ensures in
+    let long : size_of c.args.net.now ≤ length c.args.net.now = omega (arith, h.latches, h.outputs, h.gates, c.size.ensures, c.if-net-size.false) in
+    record {
+      first_value = (omega (arith, h.inputs), rw (← h.maximum) last);
+      count_in_bounds = (omega (arith, h.latches, long), omega (arith, v, h.inputs, h.latches));
+    }
 
 pub returns : goal.returns
 returns c =
-    c.latches_ok.ensures ∙ sym ((split (c.args.net.now) ((le-leb 5 _ c.if-net-lt-HEADER.false)) ((sym c.header_ok.ensures ∙ not-false _ c.if-not-header_ok.false-raw))) ∙ rw ((le-leb _ _ c.if-net-operands.false), (sym c.outputs_ok.ensures ∙ not-false _ c.if-not-outputs_ok.false-raw)))
+    let h = c.of-header.ensures in
+    let e = limits c.of-header.result c.args.net.now h.maximum h.inputs h.latches h.outputs h.gates (sym c.is_within_limits.ensures ∙ not-false _ c.if-not-is_within_limits.false-raw) in
+    let long : size_of c.args.net.now ≤ length c.args.net.now = omega (arith, h.latches, h.outputs, h.gates, c.size.ensures, c.if-net-size.false) in
+    let o = rw h.outputs at (sym c.outputs_ok.ensures ∙ not-false _ c.if-not-outputs_ok.false-raw) in
+    rw h.latches at c.latches_ok.ensures ∙ sym (split c.args.net.now (le-leb 5 _ c.if-net-lt-HEADER.false) e ∙ rw (le-leb _ _ long, o))

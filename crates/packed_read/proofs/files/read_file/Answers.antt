@@ -1,20 +1,27 @@
 -- `read_file` meets its contract. Assumes nothing.
+use mathlib.Core.Path.{◌≡◌}
+use borrow.Author.Rules.{rules}
+use Rattle.std.specs.Prelude.{Err}
 use Rattle.aiger_lines.proofs.HeadLaws.{head-counted}
-use Rattle.aiger_lines.proofs.PassLaws.{took-head, took-misheaded}
+use Rattle.aiger_lines.proofs.PassLaws.{took-head, took-misheaded, told_good, told_bad}
 use Rattle.packed_read.specs.Files.{read_packed}
 use Rattle.packed_read.specs.Private.Steps.{latches_of}
 use Rattle.packed_read.proofs.files.read_file.Goals as goal
 
+pub returns-in_err-head : goal.returns-in_err-head
+unfolding read_packed
+returns-in_err-head c =
+    let r : c.from_residual.result ≡ Err c.in_err-head.field-0.0 = search rules in
+    let w = told_bad c.header_at.result (λ e. (e, 1)) c.map_err.ensures.cases (λ g p. search rules) (λ e q. search rules) _ c.in_err-head.was in
+    took-misheaded _ _ c.header_at.ensures _ _ _ _ _ r w
+
 pub latches_at-requires : goal.latches_at-requires
 latches_at-requires c =
-    head-counted _ _ _ _ c.header_at.ensures c.in-Good.is
+    let w = told_good c.header_at.result (λ e. (e, 1)) c.map_err.ensures.cases (λ g p. search rules) (λ e q. search rules) _ c.in_ok-head.was in
+    head-counted _ _ _ _ c.header_at.ensures w
 
-pub returns-in-Good : goal.returns-in-Good
+pub returns : goal.returns
 unfolding read_packed latches_of
-returns-in-Good c =
-    took-head _ _ c.header_at.ensures _ _ _ _ _ _ c.in-Good.is c.store_head.ensures c.latches_at.ensures
-
-pub returns-in-Bad : goal.returns-in-Bad
-unfolding read_packed
-returns-in-Bad c =
-    took-misheaded _ _ c.header_at.ensures _ _ _ _ c.in-Bad.is
+returns c =
+    let w = told_good c.header_at.result (λ e. (e, 1)) c.map_err.ensures.cases (λ g p. search rules) (λ e q. search rules) _ c.in_ok-head.was in
+    took-head _ _ c.header_at.ensures _ _ _ _ _ _ w c.store_head.ensures c.latches_at.ensures

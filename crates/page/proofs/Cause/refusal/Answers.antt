@@ -1,6 +1,5 @@
 -- `refusal` meets its contract. Assumes nothing.
 use mathlib.Core.Path.{◌≡◌, refl}
-use Rattle.text.specs.declared.Refusal.{Refusal}
 use Rattle.page.specs.declared.Cause.{Cause}
 use Rattle.page.specs.declared.Cause.TheVariants.{ShortBuffer}
 use Rattle.page.specs.Pages.{refusal_of}

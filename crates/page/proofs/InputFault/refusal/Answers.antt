@@ -1,6 +1,5 @@
 -- `refusal` meets its contract. Assumes nothing.
 use mathlib.Core.Path.{◌≡◌, refl}
-use Rattle.text.specs.declared.Refusal.{Refusal}
 use Rattle.page.specs.declared.InputFault.{InputFault}
 use Rattle.page.specs.declared.InputFault.TheVariants.{TooLong}
 use Rattle.page.specs.Pages.{input_refusal}

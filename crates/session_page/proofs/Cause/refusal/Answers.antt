@@ -1,5 +1,4 @@
 -- `session_page::Cause::refusal` meets its contract. Assumes nothing.
-use borrow.Author.Rules.{rules}
 use Rattle.session_page.specs.LayOut.{refusal_of}
 use Rattle.session_page.proofs.Cause.refusal.Goals as goal
 

@@ -1,6 +1,5 @@
 -- `session_page::fields::put_rest` meets its contract. Assumes nothing.
-use borrow.Author.Rules.{rules}
-use Rattle.text.proofs.WriterLaws.{then}
+use Rattle.text.proofs.WritingLaws.{then}
 use Rattle.session_page.proofs.fields.put_rest.Goals as goal
 
 pub returns : goal.returns

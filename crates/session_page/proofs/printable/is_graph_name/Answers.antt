@@ -1,7 +1,6 @@
 -- `session_page::printable::is_graph_name` meets its contract. Assumes nothing.
 use mathlib.Core.Path.{sym}
 use native.Mathlib.Omega.{arith}
-use borrow.Author.Rules.{rules}
 use Rattle.session_page.proofs.PrintableLaws.{name-empty, name-long, name_bytes_lem, name-answered}
 use Rattle.session_page.proofs.printable.is_graph_name.Goals as goal
 

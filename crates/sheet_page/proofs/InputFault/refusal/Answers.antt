@@ -1,6 +1,5 @@
 -- `refusal` meets its contract. Assumes nothing.
 use mathlib.Core.Path.{sym, ap}
-use borrow.Author.Rules.{rules}
 use Rattle.sheet_page.specs.Sheets.{input_refusal}
 use Rattle.sheet_page.proofs.InputFault.refusal.Goals as goal
 

@@ -6,7 +6,7 @@ use Rattle.simulator.proofs.cycle.advance.Goals as goal
 
 pub latches_move-requires : goal.latches_move-requires
 latches_move-requires c =
-    let e = c.header.ensures.0 in
+    let e = c.of.ensures.latches in
     record { net_value = c.requires.net_value; count_value = e; count_in_bounds = omega (arith, e, c.requires); net_in_bounds = omega (arith, c.requires, c.evaluate.auto.values) }
 
 pub returns : goal.returns
@@ -19,6 +19,6 @@ returns c =
       checked-is c.args.net.now c.args.cycle.now c.args.latches.now c.args.values.now v c.requires.cycle_len c.requires.net_in_bounds
           e.new.values e.ensures c.outputs.result.checked c.outputs.ensures.1,
       latches-are c.args.net.now c.args.cycle.now c.args.latches.now c.args.values.now v c.requires.cycle_len c.requires.net_in_bounds
-          c.header.result c.header.ensures.0 e.new.values e.ensures m.new.latches m.ensures,
+          c.of.result.latches c.of.ensures.latches e.new.values e.ensures m.new.latches m.ensures,
       e.ensures,
     )

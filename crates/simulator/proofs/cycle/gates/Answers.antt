@@ -1,16 +1,15 @@
 -- `simulator::cycle::gates` meets its contract: the words of the gates passed stand in front, and the rest is as it was. Assumes nothing.
-use mathlib.Core.Path.{◌≡◌, refl}
+use mathlib.Core.Path.{◌≡◌}
 use Prim.Native.Nat.{◌+◌, ◌*◌, ◌≤◌}
 use native.Mathlib.Omega.{arith}
-use lib.ListN.{length, length-set}
-use borrow.Author.Rules.{rules}
+use lib.ListN.{length}
 use Rattle.netlist.specs.Meaning.{words}
 use Rattle.netlist.proofs.ValidLaws.{valid}
 use Rattle.simulator.proofs.CycleLaws.{Ordered, ordered, buffer, buffer-zero, buffer-more}
 use Rattle.simulator.proofs.cycle.gates.Goals as goal
 
 pub loop-g-init : goal.loop-g-init
-loop-g-init c = (search rules, refl, buffer-zero words _ _ _ _)
+loop-g-init c = buffer-zero words _ _ _ _
 
 pub overflow_mul-i : goal.overflow_mul-i
 overflow_mul-i c = let long' : c.args.at + 2 * c.args.count ≤ length c.args.net.now = let v = valid c.args.net.now c.requires.net_value in omega (arith, v.long) in omega (arith, long')
@@ -49,10 +48,10 @@ loop-g-preserved c =
     let a = c.word_of-a.ensures in
     let b = c.word_of-b.ensures in
     let step = buffer-more words c.args.net.now c.args.at c.args.first c.args.values.now c.loop-g.g c.args.count t c.requires.count_in_bounds ((ordered _ (valid _ c.requires.net_value) _ _ _ c.requires.at_value c.requires.first_value c.requires.count_value)) in
-    (omega arith, simp length-set c.loop-g.invariant.1, rw (a, b, c.loop-g.invariant.2) step)
+    rw (a, b, c.loop-g.invariant) step
 
 pub returns : goal.returns
 unfolding buffer
 returns c =
     let e : c.loop-g.g ≡ c.args.count = omega arith in
-    rw e at c.loop-g.invariant.2
+    rw e at c.loop-g.invariant

@@ -1,16 +1,15 @@
 -- `simulator::cycle::latches_move` meets its contract: the latches passed have moved, and the rest are as they were. Assumes nothing.
-use mathlib.Core.Path.{◌≡◌, refl}
+use mathlib.Core.Path.{◌≡◌}
 use Prim.Native.Nat.{◌+◌, ◌*◌, ◌≤◌}
 use native.Mathlib.Omega.{arith}
-use lib.ListN.{length, length-set}
-use borrow.Author.Rules.{rules}
+use lib.ListN.{length}
 use Rattle.netlist.specs.Meaning.{words}
 use Rattle.netlist.proofs.ValidLaws.{valid}
 use Rattle.simulator.proofs.CycleLaws.{moved, moved_zero, moved_more}
 use Rattle.simulator.proofs.cycle.latches_move.Goals as goal
 
 pub loop-j-init : goal.loop-j-init
-loop-j-init c = (search rules, refl, moved_zero words _ _ _)
+loop-j-init c = moved_zero words _ _ _
 
 pub overflow_mul-i : goal.overflow_mul-i
 overflow_mul-i c = let long' : 5 + 2 * c.args.count ≤ length c.args.net.now = let v = valid c.args.net.now c.requires.net_value in omega (arith, v.long) in omega (arith, long')
@@ -31,10 +30,10 @@ word_of-requires c =
 pub loop-j-preserved : goal.loop-j-preserved
 loop-j-preserved c =
     let step = moved_more words c.args.net.now c.args.values.now c.args.latches.now c.loop-j.j (omega arith) in
-    (omega arith, simp length-set c.loop-j.invariant.1, rw (c.loop-j.invariant.2, c.word_of.ensures) step)
+    rw (c.loop-j.invariant, c.word_of.ensures) step
 
 pub returns : goal.returns
 unfolding moved
 returns c =
     let e : c.loop-j.j ≡ c.args.count = omega arith in
-    rw e at c.loop-j.invariant.2
+    rw e at c.loop-j.invariant

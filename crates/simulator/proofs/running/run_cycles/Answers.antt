@@ -9,15 +9,16 @@ use Rattle.simulator.proofs.running.run_cycles.Goals as goal
 
 pub loop-k-init : goal.loop-k-init
 loop-k-init c =
-    let a = asked _ _ _ _ _ _ _ _ c.requires c.header-n.ensures.0 refl in
-    (a, going_start _ _ _ _ _ _ _ _ a)
+    let a = asked _ _ _ _ _ _ _ _ c.requires c.of-n.ensures.inputs refl in
+    let n = c.new-reader.ensures in
+    (a, rw n.2 (going_start _ _ _ _ _ _ _ _ a), cc, n.1)
 
 pub advance-words-requires : goal.advance-words-requires
 advance-words-requires c =
     let i = c.loop-k.invariant in
     let p = ready _ _ _ _ _ _ _ _ i.0 in
     let h = going_line _ _ _ _ _ _ _ _ _ _ _ _ _ _ i.1 i.0 c.loop-k-test.true in
-    let e : length c.next_cycle-cycle.result.now ≡ c.header-n.result = rw c.next_cycle-cycle.ensures (length_part c.args.trace.now c.loop-k.at c.header-n.result (omega arith)) in
+    let e : length c.next_cycle-cycle.result.now ≡ c.of-n.result.inputs = rw (c.next_cycle-cycle.ensures.cycle, i.2, i.3) (length_part c.args.trace.now c.loop-k.reader.at c.of-n.result.inputs (omega arith)) in
     record { net_value = p.netlist; cycle_len = e ∙ i.0.inputs; net_in_bounds = rw i.1.latches-length p.latches; net_in_bounds_2 = rw i.1.values_length p.values }
 
 pub bounds-verdicts-k : goal.bounds-verdicts-k
@@ -31,29 +32,19 @@ bounds-verdicts-k c =
 pub tallied-total-requires : goal.tallied-total-requires
 tallied-total-requires c = going_room _ _ _ _ _ _ _ _ _ _ _ _ _ _ c.loop-k.invariant.1 c.loop-k-test.true
 
-pub overflow_add-k : goal.overflow_add-k
-overflow_add-k c =
-    let b = bytes_enough _ _ _ _ _ _ _ _ c.loop-k.invariant.0 in
-    let t = c.loop-k-test.true in
-    omega (arith, c.well_formed)
-
 pub loop-k-preserved : goal.loop-k-preserved
 loop-k-preserved c =
     let i = c.loop-k.invariant in
     let t = c.loop-k-test.true in
-    let e : c.next_place-at.result ≡ c.loop-k.at + (c.header-n.result + 1) = going_place _ _ _ _ _ _ _ _ _ _ _ _ _ _ i.1 i.0 t _ c.next_place-at.ensures in
+    let m = c.next_cycle-cycle.ensures.moved in
+    let e : c.next_cycle-cycle.new.self.at ≡ c.loop-k.reader.at + (c.of-n.result.inputs + 1) = going_place _ _ _ _ _ _ _ _ _ _ _ _ _ _ i.1 i.0 t _ (rw (i.2, i.3) at m.2) in
     let a = c.advance-words in (
       i.0,
-      rw e (going_next _ _ _ _ _ _ _ _ _ _ _ _ _ _ i.1 i.0 t c.next_cycle-cycle.result.now c.next_cycle-cycle.ensures
+      rw e (going_next _ _ _ _ _ _ _ _ _ _ _ _ _ _ i.1 i.0 t c.next_cycle-cycle.result.now (rw (i.2, i.3) at c.next_cycle-cycle.ensures.cycle)
           a.result.accept a.result.checked _ _ a.ensures.0 a.ensures.1 a.ensures.2 a.ensures.3 (search rules) (search rules) c.verdict_byte.result c.verdict_byte.ensures c.tallied-total.result c.tallied-total.ensures),
+      cc,
+      m.1 ∙ i.3,
     )
-
-pub verdict-judged-requires : goal.verdict-judged-requires
-verdict-judged-requires c =
-    let i = c.loop-k.invariant in
-    let e = i.1.verdicts-length in
-    let b = bytes_enough _ _ _ _ _ _ _ _ i.0 in
-    omega arith
 
 pub returns : goal.returns
 returns c = going_done _ _ _ _ _ _ _ _ _ _ _ _ _ _ c.loop-k.invariant.1 c.loop-k.invariant.0 c.loop-k-test.false c.verdict-judged.result c.verdict-judged.ensures

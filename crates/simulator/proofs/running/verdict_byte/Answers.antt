@@ -1,12 +1,10 @@
 -- `simulator::running::verdict_byte` meets its contract. Assumes nothing.
-use mathlib.Core.Path.{sym, ◌∙◌}
+use mathlib.Core.Path.{ap, ◌∙◌}
+use mathlib.Core.Bool.{Bool, cond}
 use Rattle.simulator.specs.Run.{verdict_byte}
+use Rattle.netlist.proofs.EachLaws.{bit_byte}
 use Rattle.simulator.proofs.running.verdict_byte.Goals as goal
 
-pub returns-then-is_rejected : goal.returns-then-is_rejected
+pub returns : goal.returns
 unfolding verdict_byte
-returns-then-is_rejected c = rw (sym c.is_rejected.ensures ∙ c.if-is_rejected.true)
-
-pub returns-else-is_rejected : goal.returns-else-is_rejected
-unfolding verdict_byte
-returns-else-is_rejected c = rw (sym c.is_rejected.ensures ∙ c.if-is_rejected.false)
+returns c = c.from.ensures ∙ bit_byte _ ∙ ap (λ (b : Bool). cond b 1 0) c.is_rejected.ensures

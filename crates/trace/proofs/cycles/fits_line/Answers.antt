@@ -7,6 +7,6 @@ pub returns-then-col-n : goal.returns-then-col-n
 unfolding fits_line
 returns-then-col-n c = rw (eq-eqb _ _ c.if-col-n.true)
 
-pub returns : goal.returns
+pub returns-else-col-n : goal.returns-else-col-n
 unfolding fits_line
-returns c = rw (ne_eqb _ _ c.if-col-n.false, c.is_bit.ensures)
+returns-else-col-n c = rw (ne_eqb _ _ c.if-col-n.false, c.is_bit.ensures)

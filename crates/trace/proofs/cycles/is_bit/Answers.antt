@@ -7,6 +7,6 @@ pub returns-then-b-eq48 : goal.returns-then-b-eq48
 unfolding is_bit
 returns-then-b-eq48 c = simp (eq-eqb _ _ c.if-b-eq48.true)
 
-pub returns : goal.returns
+pub returns-else-b-eq48 : goal.returns-else-b-eq48
 unfolding is_bit
-returns c = simp (ne_eqb _ _ c.if-b-eq48.false)
+returns-else-b-eq48 c = simp (ne_eqb _ _ c.if-b-eq48.false)

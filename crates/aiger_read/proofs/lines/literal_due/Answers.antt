@@ -1,9 +1,0 @@
--- `literal_due` meets its contract. Assumes nothing.
-use mathlib.Core.Bool.{false}
-use native.Mathlib.Omega.{arith}
-use borrow.Author.Rules.{rules}
-use Rattle.netlist.proofs.LiteralLaws.{made}
-use Rattle.aiger_read.proofs.lines.literal_due.Goals as goal
-
-pub returns : goal.returns
-returns c = made _ false (omega (arith, c.requires)) c.literal.ensures

@@ -1,6 +1,0 @@
--- `builder::formulas::found_in` meets its contract. Assumes nothing.
-use borrow.Author.Rules.{rules}
-use Rattle.builder.proofs.formulas.found_in.Goals as goal
-
-pub returns : goal.returns
-returns c = rw (← c.part-name.ensures) c.look_up_name.ensures.value

@@ -6,7 +6,7 @@ ghost use Rattle.formula.specs.Classes.{class_of, strength_of, is_letter, start_
 use crate::{Class, Start};
 
 // The class of each byte value.
-const CLASS: [Class; 256] = [
+static CLASS: [Class; 256] = [
     Class::Other,
     Class::Other,
     Class::Other,

@@ -11,17 +11,13 @@ use crate::{Arc, CheckedGraph, Fault};
 const MOST_EDGES: usize = 128;
 
 // The graph with one edge more.
-fn with_edge(g: CheckedGraph, e: Arc) -> CheckedGraph
+fn with_edge(mut g: CheckedGraph, e: Arc) -> CheckedGraph
     requires { g.edges < 128 }
     ensures { result ≡ with_edge g e }
 {
-    let mut arcs = g.arcs;
-    arcs[g.edges] = e;
-    CheckedGraph {
-        arcs,
-        edges: g.edges + 1,
-        ..g
-    }
+    g.arcs[g.edges] = e;
+    g.edges += 1;
+    g
 }
 
 // The lower fault of an edge's two formulas.

@@ -238,7 +238,11 @@ pub fn read_graph(text: &[u8]) -> Result<CheckedGraph, Cause>
         if end == text.len() {
             return Err(Cause::FaultyLine(Fault::WrongShape, line));
         }
-        g = add_line(text, g, at, end).map_err(|fault| Cause::FaultyLine(fault, line))?;
+        // a `match`: `map_err` and `?` would hold the graph, of 8 KB, once more each on the stack
+        match add_line(text, g, at, end) {
+            Ok(next) => g = next,
+            Err(fault) => return Err(Cause::FaultyLine(fault, line)),
+        }
         at = end + 1;
         line += 1;
     }

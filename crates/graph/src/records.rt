@@ -25,47 +25,35 @@ fn symbol_word(start: usize, length: usize, place: usize, width: usize) -> usize
 }
 
 // The graph with one signal more.
-fn with_signal(g: CheckedGraph, p: usize, length: usize, width: usize) -> CheckedGraph
+fn with_signal(mut g: CheckedGraph, p: usize, length: usize, width: usize) -> CheckedGraph
     requires { (g.named < 69) × (g.signals + width ≤ 63) × (p ≤ 32768) × (length ≤ 15) × (width ≤ 16) }
     ensures { result ≡ with_signal g p length width }
 {
-    let mut names = g.names;
-    names[g.named] = symbol_word(p, length, g.signals, width);
-    CheckedGraph {
-        names,
-        named: g.named + 1,
-        signals: g.signals + width,
-        ..g
-    }
+    g.names[g.named] = symbol_word(p, length, g.signals, width);
+    g.named += 1;
+    g.signals += width;
+    g
 }
 
 // The graph with one constant more.
-fn with_constant(g: CheckedGraph, p: usize, length: usize, width: usize) -> CheckedGraph
+fn with_constant(mut g: CheckedGraph, p: usize, length: usize, width: usize) -> CheckedGraph
     requires { (g.named < 69) × (g.signals ≤ 63) × (g.constants + width ≤ 6) × (p ≤ 32768) × (length ≤ 15) }
     ensures { result ≡ with_constant g p length width }
 {
-    let mut names = g.names;
-    names[g.named] = symbol_word(p, length, g.signals + g.constants, width);
-    CheckedGraph {
-        names,
-        named: g.named + 1,
-        constants: g.constants + width,
-        ..g
-    }
+    g.names[g.named] = symbol_word(p, length, g.signals + g.constants, width);
+    g.named += 1;
+    g.constants += width;
+    g
 }
 
 // The graph with one vertex more.
-fn with_vertex(g: CheckedGraph, p: usize) -> CheckedGraph
+fn with_vertex(mut g: CheckedGraph, p: usize) -> CheckedGraph
     requires { g.vertices < 64 }
     ensures { result ≡ with_vertex g p }
 {
-    let mut points = g.points;
-    points[g.vertices] = p;
-    CheckedGraph {
-        points,
-        vertices: g.vertices + 1,
-        ..g
-    }
+    g.points[g.vertices] = p;
+    g.vertices += 1;
+    g
 }
 
 // A signal's record, whose name starts at p.

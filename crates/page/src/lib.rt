@@ -137,7 +137,10 @@ where
 {
     let mut net = [0u16; MAX_NUMBERS];
     match builder::build(input, false, &mut net) {
-        Ok(_) => write(&net, out).or(Err(Cause::ShortBuffer)),
+        Ok(_) => {
+            let end = write(&net, out).or(Err(Cause::ShortBuffer))?;
+            Ok(end)
+        }
         Err(cause) => refused_page(out, cause.refusal()),
     }
 }

@@ -10,9 +10,7 @@ use text::Writer;
 pub(crate) fn put_blanks(page: &mut Writer, count: usize)
     ensures { Writes page.old page.new (blanks count) }
 {
-    for _ in 0..count {
-        page.byte(b' ');
-    }
+    page.repeat(b' ', count);
 }
 
 // Appends a number in a field of a width, right.

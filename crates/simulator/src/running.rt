@@ -51,7 +51,7 @@ pub(crate) fn run_cycles(
         verdicts[k] = verdict_byte(words.accept);
         total = tallied(total, words.accept, words.checked);
     }
-    let judged = verdict(&verdicts[..lines]);
+    let judged = verdict(&verdicts[0..lines]);
     Ran {
         outcome: Ok(judged),
         tally: total,

@@ -1,11 +1,15 @@
 -- `simulator::running::run_cycles` meets its contract: what is still to run gives what the whole run gives. Assumes nothing.
 use mathlib.Core.Path.{◌≡◌, refl, ◌∙◌}
-use Prim.Native.Nat.{◌+◌}
+use Prim.Native.Nat.{ℕ, ◌+◌, ◌-◌, ◌/◌}
 use native.Mathlib.Omega.{arith}
 use lib.ListN.{length}
 use borrow.Author.Rules.{rules}
 use Rattle.simulator.proofs.RunLaws.{asked, length_part, ready, bytes_enough, going_start, going_line, going_place, going_room, going_next, going_done}
 use Rattle.simulator.proofs.running.run_cycles.Goals as goal
+
+-- all lines from the first one on
+whole : (n : ℕ) → n - 0 ≡ n
+whole n = omega arith
 
 pub loop-k-init : goal.loop-k-init
 loop-k-init c =
@@ -47,4 +51,5 @@ loop-k-preserved c =
     )
 
 pub returns : goal.returns
-returns c = going_done _ _ _ _ _ _ _ _ _ _ _ _ _ _ c.loop-k.invariant.1 c.loop-k.invariant.0 c.loop-k-test.false c.verdict-judged.result c.verdict-judged.ensures
+returns c =
+    going_done _ _ _ _ _ _ _ _ _ _ _ _ _ _ c.loop-k.invariant.1 c.loop-k.invariant.0 c.loop-k-test.false c.verdict-judged.result (rw (whole (length c.args.trace.now / (c.of-n.result.inputs + 1))) at c.verdict-judged.ensures)

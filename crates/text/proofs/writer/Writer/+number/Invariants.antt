@@ -1,5 +1,0 @@
--- `text::Writer::number` meets its contract; the number falls. Assumes nothing.
-use Rattle.text.proofs.writer.Writer.+number.Given as goal
-
-abbrev pub decreases-number : goal.decreases-number
-decreases-number l = l.n

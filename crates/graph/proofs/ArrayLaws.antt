@@ -16,7 +16,7 @@ use Rattle.assertion.specs.declared.Mode.{Mode}
 use Rattle.graph.specs.Pieces.{place_of, Declared, look_up, look_up_name}
 use Rattle.graph.specs.Reading.{mode_lines, add_mode, names_of, judged_formula, lower, sized_name, add_signal, add_constant, add_vertex, edge_of, unless_faulty, judge_edge, add_edge}
 use Rattle.graph.specs.Held.{line_of, field_at, field_length, symbol_word, symbols_of, name_places, arc_of, arcs_of, no_arc, filled, held_as}
-use Rattle.graph.specs.Private.Steps.{points, held, EachNarrow, named_of, records_of, written_of, Holds, ArcAt, added_of, with_mode, with_signal, with_constant, with_vertex, with_edge}
+use Rattle.graph.specs.Private.Steps.{points, held, EachNarrow, named_of, records_of, written_of, Holds, ArcAt, Added, faulty_of, added_of, with_mode, with_signal, with_constant, with_vertex, with_edge}
 use Rattle.graph.specs.declared.Fault.{Fault}
 use Rattle.graph.specs.declared.Fault.TheVariants.{WrongOrder, TooMany, NameRepeated, UnknownVertex}
 use Rattle.graph.specs.declared.FoundName.{FoundName}
@@ -203,7 +203,7 @@ module _ (text : Bytes) (g : CheckedGraph) (graph : Graph) (h : Holds text g gra
   lines_are e = omega (arith, e, ap mode_lines mode-is, named-is, vertices-are, edges_are)
 
   module _ (m : Mode) {n : ℕ} (e : n ≡ mode_lines g.mode) where
-    pub mode_late : 0 < n + g.named + g.vertices + g.edges → Err WrongOrder ≡ added_of text (add_mode graph m)
+    pub mode_late : 0 < n + g.named + g.vertices + g.edges → faulty_of g WrongOrder ≡ added_of text g (add_mode graph m)
     unfolding added_of add_mode
     mode_late l = rw (lines_are e, lt-ltb 0 (n + g.named + g.vertices + g.edges) l)
 
@@ -215,7 +215,7 @@ module _ (text : Bytes) (g : CheckedGraph) (graph : Graph) (h : Holds text g gra
         let e0 : graph.edges ≡ [] = none_list graph.edges (omega (arith, edges_are)) in
         graph_is refl named-is signals-are constants-are vertices-are edges_are (name_places_lem ∙ rw s0) (point_places ∙ rw v0) (arc_places ∙ rw e0)
 
-    pub mode_new : n + g.named + g.vertices + g.edges ≤ 0 → Ok (with_mode g m) ≡ added_of text (add_mode graph m)
+    pub mode_new : n + g.named + g.vertices + g.edges ≤ 0 → ◌≡◌ {A = Added} (record { judged = Ok tt; graph = with_mode g m }) (added_of text g (add_mode graph m))
     unfolding added_of add_mode
     mode_new l = rw (plus_mode_lem l, lines_are e, le-ltb 0 (n + g.named + g.vertices + g.edges) l)
 
@@ -233,17 +233,17 @@ module _ (text : Bytes) (g : CheckedGraph) (graph : Graph) (h : Holds text g gra
       | no c ↦ omega (arith, vertices-are, edges_are)
     ]
 
-    pub signal_late : 0 < g.constants + g.vertices + g.edges → Err WrongOrder ≡ added_of text (add_signal graph n w)
+    pub signal_late : 0 < g.constants + g.vertices + g.edges → faulty_of g WrongOrder ≡ added_of text g (add_signal graph n w)
     unfolding added_of add_signal
     signal_late l = rw (lt-ltb 0 late (late_some l))
 
     module _ (l : g.constants + g.vertices + g.edges ≤ 0) where
-      pub signal_many : 63 < g.signals + w → Err TooMany ≡ added_of text (add_signal graph n w)
+      pub signal_many : 63 < g.signals + w → faulty_of g TooMany ≡ added_of text g (add_signal graph n w)
       unfolding added_of add_signal
       signal_many m = rw (le-ltb 0 late (late_none l), ← signals-are, lt-ltb 63 (g.signals + w) m)
 
       module _ (m : g.signals + w ≤ 63) {x : Option FoundName} {own : Bytes} (o : own ≡ n) (e : x ≡ look_up_name own (held text (take g.named g.names))) where
-        pub signal_again : is_some x ≡ true → Err NameRepeated ≡ added_of text (add_signal graph n w)
+        pub signal_again : is_some x ≡ true → faulty_of g NameRepeated ≡ added_of text g (add_signal graph n w)
         unfolding added_of add_signal
         signal_again k = rw (le-ltb 0 late (late_none l), ← signals-are, le-ltb 63 (g.signals + w) m, named-found n o e, k)
 
@@ -263,23 +263,23 @@ module _ (text : Bytes) (g : CheckedGraph) (graph : Graph) (h : Holds text g gra
               (point_places ∙ rw v0)
               (arc_places ∙ rw e0)
 
-          pub signal_new : is_some x ≡ false → Ok (with_signal g p j w) ≡ added_of text (add_signal graph n w)
+          pub signal_new : is_some x ≡ false → ◌≡◌ {A = Added} (record { judged = Ok tt; graph = with_signal g p j w }) (added_of text g (add_signal graph n w))
           unfolding added_of add_signal
           signal_new k =
               rw (plus_signal_lem, le-ltb 0 late (late_none l), ← signals-are, le-ltb 63 (g.signals + w) m, named-found n o e, k)
 
     -- ---- constants
-    pub constant_late : 0 < g.vertices + g.edges → Err WrongOrder ≡ added_of text (add_constant graph n w)
+    pub constant_late : 0 < g.vertices + g.edges → faulty_of g WrongOrder ≡ added_of text g (add_constant graph n w)
     unfolding added_of add_constant
     constant_late l = rw (← vertices-are, ← edges_are, lt-ltb 0 (g.vertices + g.edges) l)
 
     module _ (l : g.vertices + g.edges ≤ 0) where
-      pub constant_many : 6 < g.constants + w → Err TooMany ≡ added_of text (add_constant graph n w)
+      pub constant_many : 6 < g.constants + w → faulty_of g TooMany ≡ added_of text g (add_constant graph n w)
       unfolding added_of add_constant
       constant_many m = rw (← vertices-are, ← edges_are, le-ltb 0 (g.vertices + g.edges) l, ← constants-are, lt-ltb 6 (g.constants + w) m)
 
       module _ (m : g.constants + w ≤ 6) {x : Option FoundName} {own : Bytes} (o : own ≡ n) (e : x ≡ look_up_name own (held text (take g.named g.names))) where
-        pub constant_again : is_some x ≡ true → Err NameRepeated ≡ added_of text (add_constant graph n w)
+        pub constant_again : is_some x ≡ true → faulty_of g NameRepeated ≡ added_of text g (add_constant graph n w)
         unfolding added_of add_constant
         constant_again k = rw (← vertices-are, ← edges_are, le-ltb 0 (g.vertices + g.edges) l, ← constants-are, le-ltb 6 (g.constants + w) m, named-found n o e, k)
 
@@ -298,24 +298,24 @@ module _ (text : Bytes) (g : CheckedGraph) (graph : Graph) (h : Holds text g gra
               (point_places ∙ rw v0)
               (arc_places ∙ rw e0)
 
-          pub constant_new : is_some x ≡ false → Ok (with_constant g p j w) ≡ added_of text (add_constant graph n w)
+          pub constant_new : is_some x ≡ false → ◌≡◌ {A = Added} (record { judged = Ok tt; graph = with_constant g p j w }) (added_of text g (add_constant graph n w))
           unfolding added_of add_constant
           constant_new k =
               rw (plus_constant_lem, ← vertices-are, ← edges_are, le-ltb 0 (g.vertices + g.edges) l, ← constants-are, le-ltb 6 (g.constants + w) m, named-found n o e, k)
 
   -- ---- vertices
   module _ (n : Bytes) where
-    pub vertex_late : 0 < g.edges → Err WrongOrder ≡ added_of text (add_vertex graph n)
+    pub vertex_late : 0 < g.edges → faulty_of g WrongOrder ≡ added_of text g (add_vertex graph n)
     unfolding added_of add_vertex
     vertex_late l = rw (← edges_are, lt-ltb 0 g.edges l)
 
     module _ (l : g.edges ≤ 0) where
-      pub vertex_many : 64 ≤ g.vertices → Err TooMany ≡ added_of text (add_vertex graph n)
+      pub vertex_many : 64 ≤ g.vertices → faulty_of g TooMany ≡ added_of text g (add_vertex graph n)
       unfolding added_of add_vertex
       vertex_many m = rw (← edges_are, le-ltb 0 g.edges l, ← vertices-are, le-leb 64 g.vertices m)
 
       module _ (m : g.vertices < 64) {x : Option ℕ} {own : Bytes} (o : own ≡ n) (e : x ≡ look_up own (points text (take g.vertices g.points))) where
-        pub vertex_again : is_some x ≡ true → Err NameRepeated ≡ added_of text (add_vertex graph n)
+        pub vertex_again : is_some x ≡ true → faulty_of g NameRepeated ≡ added_of text g (add_vertex graph n)
         unfolding added_of add_vertex
         vertex_again k = rw (← edges_are, le-ltb 0 g.edges l, ← vertices-are, lt-leb 64 g.vertices m, point_found n o e, k)
 
@@ -329,7 +329,7 @@ module _ (text : Bytes) (g : CheckedGraph) (graph : Graph) (h : Holds text g gra
               (rw (point_places, vertices-are, q, r1, one_more_lem graph.vertices n) (places_push text 64 (first + named_of graph) (length graph.vertices) (omega (arith, vertices-are))))
               (arc_places ∙ rw e0)
 
-          pub vertex_new : is_some x ≡ false → Ok (with_vertex g p) ≡ added_of text (add_vertex graph n)
+          pub vertex_new : is_some x ≡ false → ◌≡◌ {A = Added} (record { judged = Ok tt; graph = with_vertex g p }) (added_of text g (add_vertex graph n))
           unfolding added_of add_vertex
           vertex_new k = rw (plus_vertex_lem, ← edges_are, le-ltb 0 g.edges l, ← vertices-are, lt-leb 64 g.vertices m, point_found n o e, k)
 
@@ -341,7 +341,7 @@ module _ (text : Bytes) (g : CheckedGraph) (graph : Graph) (h : Holds text g gra
     both : lower (judged_formula (names_of graph) a) (judged_formula (names_of graph) c) ≡ x
     both = rw (← names-are) (sym j)
 
-    pub edge-fault : {f : Fault} → x ≡ Err f → Err f ≡ added_of text (judge_edge graph from to marked a c)
+    pub edge-fault : {f : Fault} → x ≡ Err f → faulty_of g f ≡ added_of text g (judge_edge graph from to marked a c)
     unfolding added_of judge_edge unless_faulty
     edge-fault k = rw (both, k)
 
@@ -358,7 +358,7 @@ module _ (text : Bytes) (g : CheckedGraph) (graph : Graph) (h : Holds text g gra
       arc_is : e ≡ arc_of text (records_of graph) e.terminal (edge_of graph e.from e.to e.terminal a c)
       arc_is = same_arc e w a c
 
-  pub edge_new : (e : Arc) → ArcAt text (records_of graph) e → g.edges < 128 → (a c : Bytes) {x : Result Unit Fault} → x ≡ lower (judged_formula listed a) (judged_formula listed c) → x ≡ Ok tt → Ok (with_edge g e) ≡ added_of text (judge_edge graph e.from e.to e.terminal a c)
+  pub edge_new : (e : Arc) → ArcAt text (records_of graph) e → g.edges < 128 → (a c : Bytes) {x : Result Unit Fault} → x ≡ lower (judged_formula listed a) (judged_formula listed c) → x ≡ Ok tt → ◌≡◌ {A = Added} (record { judged = Ok tt; graph = with_edge g e }) (added_of text g (judge_edge graph e.from e.to e.terminal a c))
   unfolding added_of judge_edge unless_faulty
   edge_new e w l a c {x} j k = rw (plus_edge_lem, both e.from e.to e.terminal a c j, k)
     where
@@ -366,17 +366,17 @@ module _ (text : Bytes) (g : CheckedGraph) (graph : Graph) (h : Holds text g gra
       plus_edge_lem = plus e w l a c
 
   module _ (from to : Bytes) (marked : Bool) (a c : Bytes) where
-    pub edge_many : 128 ≤ g.edges → Err TooMany ≡ added_of text (add_edge graph from to marked a c)
+    pub edge_many : 128 ≤ g.edges → faulty_of g TooMany ≡ added_of text g (add_edge graph from to marked a c)
     unfolding added_of add_edge
     edge_many l = rw (← edges_are, le-leb 128 g.edges l)
 
     module _ (few : g.edges < 128) {f : Option ℕ} (hf : f ≡ look_up from (points text (take g.vertices g.points))) where
-      pub edge-from : f ≡ None → Err UnknownVertex ≡ added_of text (add_edge graph from to marked a c)
+      pub edge-from : f ≡ None → faulty_of g UnknownVertex ≡ added_of text g (add_edge graph from to marked a c)
       unfolding added_of add_edge
       edge-from k = rw (← edges_are, lt-leb 128 g.edges few, point_found from refl hf, k)
 
       module _ {p : ℕ} (ok : f ≡ Some p) {t : Option ℕ} (ht : t ≡ look_up to (points text (take g.vertices g.points))) where
-        pub edge_to : t ≡ None → Err UnknownVertex ≡ added_of text (add_edge graph from to marked a c)
+        pub edge_to : t ≡ None → faulty_of g UnknownVertex ≡ added_of text g (add_edge graph from to marked a c)
         unfolding added_of add_edge
         edge_to k = rw (← edges_are, lt-leb 128 g.edges few, point_found from refl hf, ok, point_found to refl ht, k)
 

@@ -1,5 +1,5 @@
 -- Laws of one line: what its record adds, by the places of its fields. Assumes nothing.
-use Rattle.std.specs.Prelude.{Option, Some, None, Err}
+use Rattle.std.specs.Prelude.{Option, Some, None}
 use Prim.Native.Nat.{ℕ, ◌+◌, ◌-◌, ◌≤◌}
 use mathlib.Core.Path.{◌≡◌, sym, ap, subst, ◌∙◌}
 use mathlib.Core.Bool.{Bool}
@@ -12,8 +12,9 @@ use Rattle.graph.specs.Pieces.{end_at, piece_at}
 use Rattle.graph.specs.Records.{record_of}
 use Rattle.graph.specs.Reading.{add, add_mode, add_signal, add_constant, add_vertex, add_edge}
 use Rattle.graph.specs.Held.{line_start, line_of, field_start, field_at, field_length}
-use Rattle.graph.specs.Private.Steps.{viewed, FieldOf, NameOf, Placed, EdgeAt, added_of}
+use Rattle.graph.specs.Private.Steps.{viewed, FieldOf, NameOf, Placed, EdgeAt, faulty_of, added_of}
 use Rattle.graph.specs.declared.Fault.TheVariants.{WrongShape}
+use Rattle.graph.specs.declared.CheckedGraph.{CheckedGraph}
 use Rattle.graph.specs.declared.Shape.{Shape}
 use Rattle.graph.specs.declared.Shape.TheVariants.{Moded, Signal, Constant, Vertex, Edge}
 use Rattle.graph.proofs.PieceLaws.{piece_take, piece_in, part_in}
@@ -56,9 +57,9 @@ module _ (text : Bytes) (graph : Graph) (n at end : ℕ) (ha : at ≡ line_start
       let i : p ≤ length (piece_at 10 text at) = rw w f.0 in
       sym (piece_in 10 text at p i) ∙ ap (drop p) w
 
-  pub line-wrong : shape ≡ None → Err WrongShape ≡ added_of text (add graph (record_of (line_of text n)))
+  pub line-wrong : (g : CheckedGraph) → shape ≡ None → faulty_of g WrongShape ≡ added_of text g (add graph (record_of (line_of text n)))
   unfolding add viewed added_of
-  line-wrong e = rw (is_record e)
+  line-wrong g e = rw (is_record e)
 
   pub line-mode : (m : Mode) → shape ≡ Some (Moded m) → add_mode graph m ≡ add graph (record_of (line_of text n))
   unfolding add viewed

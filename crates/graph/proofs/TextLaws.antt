@@ -1,5 +1,5 @@
 -- Laws of the lines of a text, read one after the other. Assumes nothing.
-use Rattle.std.specs.Prelude.{Result, Ok, Err}
+use Rattle.std.specs.Prelude.{Ok, Err}
 use Prim.Native.Nat.{ℕ, ◌+◌, ◌≤◌, ◌<◌}
 use mathlib.Core.Path.{◌≡◌, refl, sym, ap, ◌∙◌}
 use mathlib.Core.List.{List, [], ◌∷◌}
@@ -13,7 +13,7 @@ use Rattle.graph.specs.Pieces.{split, end_at, piece_at}
 use Rattle.graph.specs.Records.{record_of}
 use Rattle.graph.specs.Reading.{Step, fault, went, mode_lines, add, refused, finished, read_lines, nothing, graph_of}
 use Rattle.graph.specs.Held.{line_start, line_of, answer_of, read_of}
-use Rattle.graph.specs.Private.Steps.{records_of, written_of, Holds, Kept, added_of}
+use Rattle.graph.specs.Private.Steps.{records_of, written_of, Holds, Kept, Added, added_of}
 use Rattle.graph.specs.declared.Fault.{Fault}
 use Rattle.graph.specs.declared.Fault.TheVariants.{WrongShape}
 use Rattle.graph.specs.declared.Cause.TheVariants.{TextTooLong, FaultyLine}
@@ -66,18 +66,15 @@ unfolding line_start mode_lines
 going_start text h = record { graph = nothing; grown = nothing_grown text; arrays = h; start = refl; rest = refl }
 
 -- what a step answered
-added-fault : (text : Bytes) (s : Step) {x : Result CheckedGraph Fault} {f : Fault} → x ≡ added_of text s → x ≡ Err f → s ≡ fault f
+added-fault : (text : Bytes) (g : CheckedGraph) (s : Step) {x : Added} {f : Fault} → x ≡ added_of text g s → x.judged ≡ Err f → s ≡ fault f
 unfolding added_of
-added-fault text (fault k) e h = cc
-added-fault text (went more) e h = let z : ◌≡◌ {A = ℕ} 0 1 = cc in absurd (omega arith)
+added-fault text g (fault k) e h = let j = ap (λ (a : Added). a.judged) e in cc
+added-fault text g (went more) {x} {f} e h = let j : x.judged ≡ Ok tt = ap (λ (a : Added). a.judged) e in let z : ◌≡◌ {A = ℕ} 0 1 = cc in absurd (omega arith)
 
-added-went : (text : Bytes) (s : Step) {x : Result CheckedGraph Fault} {next : CheckedGraph} → x ≡ added_of text s → x ≡ Ok next → (more : Graph) × (s ≡ went more) × (next ≡ written_of text more)
+added-went : (text : Bytes) (g : CheckedGraph) (s : Step) {x : Added} → x ≡ added_of text g s → x.judged ≡ Ok tt → (more : Graph) × (s ≡ went more) × (x.graph ≡ written_of text more)
 unfolding added_of
-added-went text (fault k) e h = let z : ◌≡◌ {A = ℕ} 0 1 = cc in absurd (omega arith)
-added-went text (went more) {x} {next} e h = (more, refl, ok_same (sym h ∙ e))
-  where
-    ok_same : {a b : CheckedGraph} → ◌≡◌ {A = Result CheckedGraph Fault} (Ok a) (Ok b) → a ≡ b
-    ok_same k = cc
+added-went text g (fault k) {x} e h = let j : x.judged ≡ Err k = ap (λ (a : Added). a.judged) e in let z : ◌≡◌ {A = ℕ} 0 1 = cc in absurd (omega arith)
+added-went text g (went more) e h = (more, refl, ap (λ (a : Added). a.graph) e)
 
 module _ (text : Bytes) (g : CheckedGraph) (at line : ℕ) (h : Going text g at line) where
   pub going_holds : Holds text g h.graph
@@ -108,11 +105,11 @@ module _ (text : Bytes) (g : CheckedGraph) (at line : ℕ) (h : Going text g at 
   unfolding line_of
   this_line = rw h.start
 
-  module _ {end : ℕ} (e : end ≡ end_at 10 text at) (l : end < length text) {x : Result CheckedGraph Fault} (a : x ≡ added_of text (add h.graph (record_of (line_of text (records_of h.graph))))) where
-    pub going_next : {next : CheckedGraph} → x ≡ Ok next → Going text next (end + 1) (line + 1)
+  module _ {end : ℕ} (e : end ≡ end_at 10 text at) (l : end < length text) {x : Added} (a : x ≡ added_of text g (add h.graph (record_of (line_of text (records_of h.graph))))) where
+    pub going_next : x.judged ≡ Ok tt → Going text x.graph (end + 1) (line + 1)
     unfolding line_start
     going_next k =
-        let w = added-went text (add h.graph (record_of (line_of text (records_of h.graph)))) a k in
+        let w = added-went text g (add h.graph (record_of (line_of text (records_of h.graph)))) a k in
         let s = line_step text h.graph h.grown w.1 in
         record {
           graph = w.0;
@@ -122,9 +119,9 @@ module _ (text : Bytes) (g : CheckedGraph) (at line : ℕ) (h : Going text g at 
           rest = sym (lines_next text h.graph line at e l (ap (λ (b : Bytes). add h.graph (record_of b)) (sym this_line) ∙ w.1)) ∙ h.rest;
         }
 
-    going_fault : {f : Fault} → x ≡ Err f → refused (FaultyLine f line) ≡ read_lines nothing 1 (split 10 text)
+    going_fault : {f : Fault} → x.judged ≡ Err f → refused (FaultyLine f line) ≡ read_lines nothing 1 (split 10 text)
     going_fault k =
-        let w = added-fault text (add h.graph (record_of (line_of text (records_of h.graph)))) a k in
+        let w = added-fault text g (add h.graph (record_of (line_of text (records_of h.graph)))) a k in
         sym (lines-fault text h.graph line at e l (ap (λ (b : Bytes). add h.graph (record_of b)) (sym this_line) ∙ w)) ∙ h.rest
 
 -- ---- the answers
@@ -141,7 +138,7 @@ module _ (text : Bytes) (short : length text ≤ 32768) (g : CheckedGraph) (at l
   unfolding read_of answer_of
   read_unended l e z = ap (answer_of text) (sym (lines_unended text h.graph line at l e z) ∙ h.rest ∙ sym whole)
 
-  pub read-fault : {end : ℕ} → end ≡ end_at 10 text at → end < length text → {x : Result CheckedGraph Fault} → x ≡ added_of text (add h.graph (record_of (line_of text (records_of h.graph)))) → {f : Fault} → x ≡ Err f → Err (FaultyLine f line) ≡ read_of text
+  pub read-fault : {end : ℕ} → end ≡ end_at 10 text at → end < length text → {x : Added} → x ≡ added_of text g (add h.graph (record_of (line_of text (records_of h.graph)))) → {f : Fault} → x.judged ≡ Err f → Err (FaultyLine f line) ≡ read_of text
   unfolding read_of answer_of
   read-fault e l a k = ap (answer_of text) (going_fault text g at line h e l a k ∙ sym whole)
 

@@ -10,14 +10,13 @@ use crate::{Arc, CheckedGraph, Fault};
 
 const MOST_EDGES: usize = 128;
 
-// The graph with one edge more.
-fn with_edge(mut g: CheckedGraph, e: Arc) -> CheckedGraph
-    requires { g.edges < 128 }
-    ensures { result ≡ with_edge g e }
+// Adds an edge to the graph.
+fn push_edge(g: &mut CheckedGraph, e: Arc)
+    requires { g.old.edges < 128 }
+    ensures { g.new ≡ with_edge g.old e }
 {
     g.arcs[g.edges] = e;
     g.edges += 1;
-    g
 }
 
 // The lower fault of an edge's two formulas.
@@ -29,13 +28,14 @@ fn judge_both(text: &[u8], symbols: &[usize], e: Arc) -> Result<(), Fault>
     lower_of(a, c)
 }
 
-// An edge whose vertices are known.
-fn judge_edge(text: &[u8], g: CheckedGraph, e: Arc) -> Result<CheckedGraph, Fault>
-    requires { Kept g × (g.edges < 128) }
-    ensures { AddsArc text.now g e result }
+// Judges the formulas of an edge whose vertices are known, and adds the edge.
+fn judge_edge(text: &[u8], g: &mut CheckedGraph, e: Arc) -> Result<(), Fault>
+    requires { Kept g.old × (g.old.edges < 128) }
+    ensures { AddsArc text.now g.old e (record { judged = result; graph = g.new }) }
 {
     judge_both(text, &g.names[..g.named], e)?;
-    Ok(with_edge(g, e))
+    push_edge(g, e);
+    Ok(())
 }
 
 // The vertex whose name is the field at a place of the line.
@@ -74,7 +74,7 @@ fn arc_of(
 // An edge's record: a line that starts at `at`, and where its fields start in it.
 pub(crate) fn add_edge(
     text: &[u8],
-    g: CheckedGraph,
+    g: &mut CheckedGraph,
     line: &[u8],
     at: usize,
     from: usize,
@@ -82,9 +82,9 @@ pub(crate) fn add_edge(
     marked: bool,
     left: usize,
     right: usize,
-) -> Result<CheckedGraph, Fault>
-    requires { Kept g × (at + length line.now ≤ length text.now) × (left ≤ length line.now) × (right ≤ length line.now) }
-    ensures { AddsEdge text.now g line.now at from to marked left right result }
+) -> Result<(), Fault>
+    requires { Kept g.old × (at + length line.now ≤ length text.now) × (left ≤ length line.now) × (right ≤ length line.now) }
+    ensures { AddsEdge text.now g.old line.now at from to marked left right (record { judged = result; graph = g.new }) }
 {
     if MOST_EDGES <= g.edges {
         return Err(Fault::TooMany);

@@ -160,10 +160,10 @@ impl Cause {
     }
 }
 
-// The record of the line from `at` to its end.
-fn add_line(text: &[u8], g: CheckedGraph, at: usize, end: usize) -> Result<CheckedGraph, Fault>
-    requires { Kept g × (end ≡ end_at 10 text.now at) × (at ≤ end) × (end ≤ length text.now) × (length text.now ≤ 32768) }
-    ensures { AddsLine text.now g at result }
+// Adds the record of the line from `at` to its end to the graph, which a fault leaves as it was.
+fn add_line(text: &[u8], g: &mut CheckedGraph, at: usize, end: usize) -> Result<(), Fault>
+    requires { Kept g.old × (end ≡ end_at 10 text.now at) × (at ≤ end) × (end ≤ length text.now) × (length text.now ≤ 32768) }
+    ensures { AddsLine text.now g.old at (record { judged = result; graph = g.new }) }
 {
     let line = &text[at..end];
     let shape = shapes::shape_of(line).ok_or(Fault::WrongShape)?;
@@ -238,11 +238,7 @@ pub fn read_graph(text: &[u8]) -> Result<CheckedGraph, Cause>
         if end == text.len() {
             return Err(Cause::FaultyLine(Fault::WrongShape, line));
         }
-        // a `match`: `map_err` and `?` would hold the graph, of 8 KB, once more each on the stack
-        match add_line(text, g, at, end) {
-            Ok(next) => g = next,
-            Err(fault) => return Err(Cause::FaultyLine(fault, line)),
-        }
+        add_line(text, &mut g, at, end).map_err(|fault| Cause::FaultyLine(fault, line))?;
         at = end + 1;
         line += 1;
     }

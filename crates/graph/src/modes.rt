@@ -18,24 +18,25 @@ fn mode_lines(mode: Mode) -> usize
     }
 }
 
-// The graph with its mode.
-fn with_mode(g: CheckedGraph, mode: Mode) -> CheckedGraph
-    ensures { result ≡ with_mode g mode }
+// Gives the graph its mode.
+fn set_mode(g: &mut CheckedGraph, mode: Mode)
+    ensures { g.new ≡ with_mode g.old mode }
 {
-    CheckedGraph { mode, ..g }
+    g.mode = mode;
 }
 
 // An `M` line's record.
-pub(crate) fn add_mode(g: CheckedGraph, mode: Mode) -> Result<CheckedGraph, Fault>
-    requires { Kept g }
-    ensures { AddsMode g mode result }
+pub(crate) fn add_mode(g: &mut CheckedGraph, mode: Mode) -> Result<(), Fault>
+    requires { Kept g.old }
+    ensures { AddsMode g.old mode (record { judged = result; graph = g.new }) }
 {
     let said = g.mode;
     let first = mode_lines(said);
     if 0 < first + g.named + g.vertices + g.edges {
         return Err(Fault::WrongOrder);
     }
-    Ok(with_mode(g, mode))
+    set_mode(g, mode);
+    Ok(())
 }
 
 // Is one of the edges marked?

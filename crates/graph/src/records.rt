@@ -24,48 +24,45 @@ fn symbol_word(start: usize, length: usize, place: usize, width: usize) -> usize
     start * START + length * LENGTH + place * FIRST + width
 }
 
-// The graph with one signal more.
-fn with_signal(mut g: CheckedGraph, p: usize, length: usize, width: usize) -> CheckedGraph
-    requires { (g.named < 69) × (g.signals + width ≤ 63) × (p ≤ 32768) × (length ≤ 15) × (width ≤ 16) }
-    ensures { result ≡ with_signal g p length width }
+// Adds a signal to the graph.
+fn push_signal(g: &mut CheckedGraph, p: usize, length: usize, width: usize)
+    requires { (g.old.named < 69) × (g.old.signals + width ≤ 63) × (p ≤ 32768) × (length ≤ 15) × (width ≤ 16) }
+    ensures { g.new ≡ with_signal g.old p length width }
 {
     g.names[g.named] = symbol_word(p, length, g.signals, width);
     g.named += 1;
     g.signals += width;
-    g
 }
 
-// The graph with one constant more.
-fn with_constant(mut g: CheckedGraph, p: usize, length: usize, width: usize) -> CheckedGraph
-    requires { (g.named < 69) × (g.signals ≤ 63) × (g.constants + width ≤ 6) × (p ≤ 32768) × (length ≤ 15) }
-    ensures { result ≡ with_constant g p length width }
+// Adds a constant to the graph.
+fn push_constant(g: &mut CheckedGraph, p: usize, length: usize, width: usize)
+    requires { (g.old.named < 69) × (g.old.signals ≤ 63) × (g.old.constants + width ≤ 6) × (p ≤ 32768) × (length ≤ 15) }
+    ensures { g.new ≡ with_constant g.old p length width }
 {
     g.names[g.named] = symbol_word(p, length, g.signals + g.constants, width);
     g.named += 1;
     g.constants += width;
-    g
 }
 
-// The graph with one vertex more.
-fn with_vertex(mut g: CheckedGraph, p: usize) -> CheckedGraph
-    requires { g.vertices < 64 }
-    ensures { result ≡ with_vertex g p }
+// Adds a vertex to the graph.
+fn push_vertex(g: &mut CheckedGraph, p: usize)
+    requires { g.old.vertices < 64 }
+    ensures { g.new ≡ with_vertex g.old p }
 {
     g.points[g.vertices] = p;
     g.vertices += 1;
-    g
 }
 
 // A signal's record, whose name starts at p.
 pub(crate) fn add_signal(
     text: &[u8],
-    g: CheckedGraph,
+    g: &mut CheckedGraph,
     p: usize,
     length: usize,
     width: usize,
-) -> Result<CheckedGraph, Fault>
-    requires { Kept g × IsWidth width × (p ≤ 32768) × (length ≤ 15) }
-    ensures { AddsSymbol text.now g p length width add_signal result }
+) -> Result<(), Fault>
+    requires { Kept g.old × IsWidth width × (p ≤ 32768) × (length ≤ 15) }
+    ensures { AddsSymbol text.now g.old p length width add_signal (record { judged = result; graph = g.new }) }
 {
     if 0 < g.constants + g.vertices + g.edges {
         return Err(Fault::WrongOrder);
@@ -76,19 +73,20 @@ pub(crate) fn add_signal(
     if look_up_name(text, &g.names, g.named, part(text, p, length)).is_some() {
         return Err(Fault::NameRepeated);
     }
-    Ok(with_signal(g, p, length, width))
+    push_signal(g, p, length, width);
+    Ok(())
 }
 
 // A constant's record, whose name starts at p. One function for both would ask at each step which of them it is.
 pub(crate) fn add_constant(
     text: &[u8],
-    g: CheckedGraph,
+    g: &mut CheckedGraph,
     p: usize,
     length: usize,
     width: usize,
-) -> Result<CheckedGraph, Fault>
-    requires { Kept g × IsWidth width × (p ≤ 32768) × (length ≤ 15) }
-    ensures { AddsSymbol text.now g p length width add_constant result }
+) -> Result<(), Fault>
+    requires { Kept g.old × IsWidth width × (p ≤ 32768) × (length ≤ 15) }
+    ensures { AddsSymbol text.now g.old p length width add_constant (record { judged = result; graph = g.new }) }
 {
     if 0 < g.vertices + g.edges {
         return Err(Fault::WrongOrder);
@@ -99,13 +97,14 @@ pub(crate) fn add_constant(
     if look_up_name(text, &g.names, g.named, part(text, p, length)).is_some() {
         return Err(Fault::NameRepeated);
     }
-    Ok(with_constant(g, p, length, width))
+    push_constant(g, p, length, width);
+    Ok(())
 }
 
 // A vertex's record, whose name starts at p.
-pub(crate) fn add_vertex(text: &[u8], g: CheckedGraph, p: usize) -> Result<CheckedGraph, Fault>
-    requires { Kept g }
-    ensures { AddsName text.now g p add_vertex result }
+pub(crate) fn add_vertex(text: &[u8], g: &mut CheckedGraph, p: usize) -> Result<(), Fault>
+    requires { Kept g.old }
+    ensures { AddsName text.now g.old p add_vertex (record { judged = result; graph = g.new }) }
 {
     if 0 < g.edges {
         return Err(Fault::WrongOrder);
@@ -116,5 +115,6 @@ pub(crate) fn add_vertex(text: &[u8], g: CheckedGraph, p: usize) -> Result<Check
     if look_up(text, &g.points[..g.vertices], piece(text, p, b'\n')).is_some() {
         return Err(Fault::NameRepeated);
     }
-    Ok(with_vertex(g, p))
+    push_vertex(g, p);
+    Ok(())
 }

@@ -8,7 +8,7 @@ ghost use Rattle.text.specs.Writer.{Wrote, Writes};
 const TOP: usize = 9223372036854775808;
 
 // Stores one byte at a place of a buffer: the place after it. A writer's appends go through this and the loops below, which
-// keep the place in a local: a place read back from the writer after each byte takes up to four times as long.
+// keep the place in a local: to read it back from the writer after each byte takes up to twice as long.
 fn put_byte(out: &mut [u8], at: usize, b: u8) -> usize
     ensures { Wrote out.old out.new at result (b ∷ []) }
 {

@@ -51,7 +51,7 @@ returns-in_err-shape c =
     let x = c.shape_of in
     let p = err_from_is_err_and c.from_residual.result c.from_residual.ensures.1 in
     let n = refused_none x.result c.ok_or.ensures.value c.in_err-shape.was in
-    λ graph h ha. rw (p.1, p.2, n.1) (line-wrong a.text.now graph _ a.at a.end ha c.requires.1 x.result x.ensures n.0)
+    λ graph h ha. rw (p.1, p.2, n.1) (line-wrong a.text.now graph _ a.at a.end ha c.requires.1 x.result x.ensures a.g.now n.0)
 
 pub returns-in-Moded : goal.returns-in-Moded
 returns-in-Moded c =
@@ -59,7 +59,7 @@ returns-in-Moded c =
     let x = c.shape_of in
     λ graph h ha.
     c.add_mode.ensures a.text.now graph h
-    ∙ ap (added_of a.text.now) (line-mode a.text.now graph _ a.at a.end ha c.requires.1 x.result x.ensures _ (shape_is c.shape_of.result c.ok_or.ensures.value c.in_ok-shape.was c.in-Moded.is))
+    ∙ ap (added_of a.text.now a.g.now) (line-mode a.text.now graph _ a.at a.end ha c.requires.1 x.result x.ensures _ (shape_is c.shape_of.result c.ok_or.ensures.value c.in_ok-shape.was c.in-Moded.is))
 
 pub returns-in-Signal : goal.returns-in-Signal
 returns-in-Signal c =
@@ -69,7 +69,7 @@ returns-in-Signal c =
     let i = subst (Placed _) e x.ensures.1 in
     λ graph h ha.
     c.add_signal.ensures graph h (name-at a.text.now graph _ a.at a.end ha c.requires.1 x.result x.ensures _ i.0.0) (name-long a.text.now graph _ a.at a.end ha c.requires.1 x.result x.ensures _ _ i.0)
-    ∙ ap (added_of a.text.now) (line_signal a.text.now graph _ a.at a.end ha c.requires.1 x.result x.ensures _ _ _ e)
+    ∙ ap (added_of a.text.now a.g.now) (line_signal a.text.now graph _ a.at a.end ha c.requires.1 x.result x.ensures _ _ _ e)
 
 pub returns-in-Constant : goal.returns-in-Constant
 returns-in-Constant c =
@@ -79,7 +79,7 @@ returns-in-Constant c =
     let i = subst (Placed _) e x.ensures.1 in
     λ graph h ha.
     c.add_constant.ensures graph h (name-at a.text.now graph _ a.at a.end ha c.requires.1 x.result x.ensures _ i.0.0) (name-long a.text.now graph _ a.at a.end ha c.requires.1 x.result x.ensures _ _ i.0)
-    ∙ ap (added_of a.text.now) (line-constant a.text.now graph _ a.at a.end ha c.requires.1 x.result x.ensures _ _ _ e)
+    ∙ ap (added_of a.text.now a.g.now) (line-constant a.text.now graph _ a.at a.end ha c.requires.1 x.result x.ensures _ _ _ e)
 
 pub returns-in-Vertex : goal.returns-in-Vertex
 returns-in-Vertex c =
@@ -88,7 +88,7 @@ returns-in-Vertex c =
     let e = shape_is c.shape_of.result c.ok_or.ensures.value c.in_ok-shape.was c.in-Vertex.is in
     λ graph h ha.
     c.add_vertex.ensures graph h (name-at a.text.now graph _ a.at a.end ha c.requires.1 x.result x.ensures _ (subst (Placed _) e x.ensures.1))
-    ∙ ap (added_of a.text.now) (line-vertex a.text.now graph _ a.at a.end ha c.requires.1 x.result x.ensures _ e)
+    ∙ ap (added_of a.text.now a.g.now) (line-vertex a.text.now graph _ a.at a.end ha c.requires.1 x.result x.ensures _ e)
 
 pub returns-in-Edge : goal.returns-in-Edge
 returns-in-Edge c =
@@ -97,4 +97,4 @@ returns-in-Edge c =
     let e = shape_is c.shape_of.result c.ok_or.ensures.value c.in_ok-shape.was c.in-Edge.is in
     λ graph h ha.
     c.add_edge.ensures graph h (edge_at a.text.now graph _ a.at a.end ha c.requires.1 x.result x.ensures _ _ _ _ _ e)
-    ∙ ap (added_of a.text.now) (line-edge a.text.now graph _ a.at a.end ha c.requires.1 x.result x.ensures _ _ _ _ _ e)
+    ∙ ap (added_of a.text.now a.g.now) (line-edge a.text.now graph _ a.at a.end ha c.requires.1 x.result x.ensures _ _ _ _ _ e)

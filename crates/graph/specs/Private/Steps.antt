@@ -164,40 +164,48 @@ pub record EdgeAt (text line : Bytes) (n at a c : ℕ) : Type 0 where
   pub antecedent : FieldOf line 4 a
   pub consequent : FieldOf line 5 c
 
--- what a record's step answers: its fault, or the arrays of the graph with it
-unfoldable pub added_of : Bytes → Step → Result CheckedGraph Fault
-added_of text (fault f) = Err f
-added_of text (went graph) = Ok (written_of text graph)
+-- what a record's step answers, and the graph that it leaves
+pub record Added : Type 0 where
+  pub judged : Result Unit Fault
+  pub graph : CheckedGraph
 
--- what a step promises of its answer r, whichever graph the arrays g hold: of a mode
-abbrev pub AddsMode : CheckedGraph → Mode → Result CheckedGraph Fault → Type 0
-AddsMode g m r = (text : Bytes) (graph : Graph) → Holds text g graph → r ≡ added_of text (add_mode graph m)
+-- a fault with the arrays as they were, or the arrays of the graph with the record
+abbrev pub faulty_of : CheckedGraph → Fault → Added
+faulty_of g f = record { judged = Err f; graph = g }
+
+unfoldable pub added_of : Bytes → CheckedGraph → Step → Added
+added_of text g (fault f) = faulty_of g f
+added_of text g (went graph) = record { judged = Ok tt; graph = written_of text graph }
+
+-- what a step promises of what it answers and leaves, r, whichever graph the arrays g hold: of a mode
+abbrev pub AddsMode : CheckedGraph → Mode → Added → Type 0
+AddsMode g m r = (text : Bytes) (graph : Graph) → Holds text g graph → r ≡ added_of text g (add_mode graph m)
 
 -- of a signal or a constant whose name of n bytes is at p
-abbrev pub AddsSymbol : Bytes → CheckedGraph → ℕ → ℕ → ℕ → (Graph → Bytes → ℕ → Step) → Result CheckedGraph Fault → Type 0
+abbrev pub AddsSymbol : Bytes → CheckedGraph → ℕ → ℕ → ℕ → (Graph → Bytes → ℕ → Step) → Added → Type 0
 AddsSymbol text g p n w step r =
     (graph : Graph) → Holds text g graph → p ≡ field_at text (records_of graph) 1 → n ≡ field_length (line_of text (records_of graph)) 1
-    → r ≡ added_of text (step graph (take n (drop p text)) w)
+    → r ≡ added_of text g (step graph (take n (drop p text)) w)
 
 -- of a vertex at p
-abbrev pub AddsName : Bytes → CheckedGraph → ℕ → (Graph → Bytes → Step) → Result CheckedGraph Fault → Type 0
+abbrev pub AddsName : Bytes → CheckedGraph → ℕ → (Graph → Bytes → Step) → Added → Type 0
 AddsName text g p step r =
-    (graph : Graph) → Holds text g graph → p ≡ field_at text (records_of graph) 1 → r ≡ added_of text (step graph (piece_at 10 text p))
+    (graph : Graph) → Holds text g graph → p ≡ field_at text (records_of graph) 1 → r ≡ added_of text g (step graph (piece_at 10 text p))
 
 -- of an edge whose vertices are known
-abbrev pub AddsArc : Bytes → CheckedGraph → Arc → Result CheckedGraph Fault → Type 0
+abbrev pub AddsArc : Bytes → CheckedGraph → Arc → Added → Type 0
 AddsArc text g e r =
-    (graph : Graph) → Holds text g graph → ArcAt text (records_of graph) e → r ≡ added_of text (judge_edge graph e.from e.to e.terminal (left_of text e) (right_of text e))
+    (graph : Graph) → Holds text g graph → ArcAt text (records_of graph) e → r ≡ added_of text g (judge_edge graph e.from e.to e.terminal (left_of text e) (right_of text e))
 
 -- of an edge by the places of its fields in its line
-abbrev pub AddsEdge : Bytes → CheckedGraph → Bytes → ℕ → ℕ → ℕ → Bool → ℕ → ℕ → Result CheckedGraph Fault → Type 0
+abbrev pub AddsEdge : Bytes → CheckedGraph → Bytes → ℕ → ℕ → ℕ → Bool → ℕ → ℕ → Added → Type 0
 AddsEdge text g line at f t m a c r =
-    (graph : Graph) → Holds text g graph → EdgeAt text line (records_of graph) at a c → r ≡ added_of text (add_edge graph (piece_at 9 line f) (piece_at 9 line t) m (piece_at 9 line a) (piece_at 9 line c))
+    (graph : Graph) → Holds text g graph → EdgeAt text line (records_of graph) at a c → r ≡ added_of text g (add_edge graph (piece_at 9 line f) (piece_at 9 line t) m (piece_at 9 line a) (piece_at 9 line c))
 
 -- of the line that starts at `at`
-abbrev pub AddsLine : Bytes → CheckedGraph → ℕ → Result CheckedGraph Fault → Type 0
+abbrev pub AddsLine : Bytes → CheckedGraph → ℕ → Added → Type 0
 AddsLine text g at r =
-    (graph : Graph) → Holds text g graph → at ≡ line_start text (records_of graph) → r ≡ added_of text (add graph (record_of (line_of text (records_of graph))))
+    (graph : Graph) → Holds text g graph → at ≡ line_start text (records_of graph) → r ≡ added_of text g (add graph (record_of (line_of text (records_of graph))))
 
 -- ---- the arrays with one more record
 abbrev pub with_mode : CheckedGraph → Mode → CheckedGraph

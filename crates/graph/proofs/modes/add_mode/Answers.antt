@@ -10,4 +10,4 @@ returns-then-first-g-gt0 c =
 pub returns : goal.returns
 returns c =
     let m = c.mode_lines-first in
-    λ text graph h. rw c.with_mode.ensures (mode_new text _ graph h _ m.ensures.0 c.if-first-g-gt0.false)
+    λ text graph h. rw c.set_mode.ensures (mode_new text _ graph h _ m.ensures.0 c.if-first-g-gt0.false)

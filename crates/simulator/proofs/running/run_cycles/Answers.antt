@@ -1,15 +1,18 @@
 -- `simulator::running::run_cycles` meets its contract: what is still to run gives what the whole run gives. Assumes nothing.
 use mathlib.Core.Path.{◌≡◌, refl, ◌∙◌}
-use Prim.Native.Nat.{ℕ, ◌+◌, ◌-◌, ◌/◌}
+use mathlib.Core.List.{List}
+use Prim.Native.Nat.{ℕ, ◌+◌, ◌-◌}
 use native.Mathlib.Omega.{arith}
-use lib.ListN.{length}
+use lib.ListN.{length, take, drop}
 use borrow.Author.Rules.{rules}
+use Rattle.simulator.specs.Run.{verdict_of}
+use Rattle.simulator.specs.declared.outcome.Verdict.{Verdict}
 use Rattle.simulator.proofs.RunLaws.{asked, length_part, ready, bytes_enough, going_start, going_line, going_place, going_room, going_next, going_done}
 use Rattle.simulator.proofs.running.run_cycles.Goals as goal
 
--- all lines from the first one on
-whole : (n : ℕ) → n - 0 ≡ n
-whole n = omega arith
+-- the verdict over the bytes from place s to place n is that over the first n, where s is 0
+whole : (v : List ℕ) (s n : ℕ) {r : Verdict} → r ≡ verdict_of (take (n - s) (drop s v)) → s ≡ 0 → r ≡ verdict_of (take n v)
+whole v s n h z = let e : n - s ≡ n = omega arith in rw (e, z) at h
 
 pub loop-k-init : goal.loop-k-init
 loop-k-init c =
@@ -52,4 +55,4 @@ loop-k-preserved c =
 
 pub returns : goal.returns
 returns c =
-    going_done _ _ _ _ _ _ _ _ _ _ _ _ _ _ c.loop-k.invariant.1 c.loop-k.invariant.0 c.loop-k-test.false c.verdict-judged.result (rw (whole (length c.args.trace.now / (c.of-n.result.inputs + 1))) at c.verdict-judged.ensures)
+    going_done _ _ _ _ _ _ _ _ _ _ _ _ _ _ c.loop-k.invariant.1 c.loop-k.invariant.0 c.loop-k-test.false c.verdict-judged.result (whole _ _ _ c.verdict-judged.ensures (omega arith))

@@ -1,5 +1,0 @@
--- `graph::records::with_signal` meets its contract. Assumes nothing.
-use Rattle.graph.proofs.records.with_signal.Goals as goal
-
-pub returns : goal.returns
-returns c = rw c.symbol_word.ensures
